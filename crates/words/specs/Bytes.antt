@@ -1,0 +1,23 @@
+-- Numbers as bytes, the highest first (document 01, Codec: numbers everywhere are big-endian).
+use mathlib.Core.List.{List, [], _∷_, _++_}
+use Prim.Native.Nat.{ℕ, zero, suc, _+_, _*_, _/_, _%_, _<_}
+use lib.ListN.{getD}
+
+-- the number that bytes write after those of a number
+unfoldable pub numFrom : ℕ → List ℕ → ℕ
+numFrom acc [] = acc
+numFrom acc (x ∷ xs) = numFrom (acc * 256 + x) xs
+
+-- the number that bytes write
+unfoldable pub num : List ℕ → ℕ
+unfolding numFrom
+num xs = numFrom 0 xs
+
+-- the low w bytes of a number
+unfoldable pub beBytes : ℕ → ℕ → List ℕ
+beBytes zero v = []
+beBytes (suc w) v = beBytes w (v / 256) ++ (v % 256 ∷ [])
+
+-- every element is a byte
+abbrev pub Bytes : List ℕ → Type 0
+Bytes s = (k : ℕ) → getD s k 0 < 256

@@ -1,0 +1,2 @@
+// Numbers as bytes, and numbers of two words.
+pub mod bytes;

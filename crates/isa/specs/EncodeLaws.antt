@@ -1,0 +1,98 @@
+-- What encoding answers and leaves in the output, from what the code finds on its way. Assumes nothing.
+use Prim.Native.Nat.{ℕ, zero, suc, _+_, _≤_, _<_}
+use mathlib.Core.Path.{_≡_, refl, sym, ap, _∙_}
+use mathlib.Core.List.{List, [], _∷_, _++_}
+use native.Mathlib.Omega.{arith}
+use lib.Dec.{leb}
+use lib.ListN.{length, take, drop, set, length-append, length-set}
+use lib.Seq.{paste, take-paste, drop-paste, drop-drop, drop-set-lt, take-all, length-take-le}
+use borrow.Author.Tests.{le-leb, lt-leb}
+use Rattle.words.specs.Bytes.{beBytes}
+use Rattle.words.specs.BytesLaws.{length-beBytes}
+use Rattle.isa.specs.declared.opcode.Row.{Row}
+use Rattle.isa.specs.declared.instr.Instr.{Instr}
+use Rattle.isa.specs.declared.instr.Parts.{Parts}
+use Rattle.isa.specs.declared.codec.EncodeError.the-variants.{BadRegister, NoRoom}
+use Rattle.isa.specs.declared.codec.Encoded.{Encoded}
+use Rattle.isa.specs.declared.codec.Encoded.the-variants.{Done, Refused}
+use Rattle.isa.specs.declared.codec.FirstBad.{FirstBad}
+use Rattle.isa.specs.declared.codec.FirstBad.the-variants.{Bad, NoneBad}
+use Rattle.isa.specs.Table.{rowOf, lengthOf, regsOf, wideOf}
+use Rattle.isa.specs.TableLaws.{small}
+use Rattle.isa.specs.Forms.{formOf, padded, six}
+use Rattle.isa.specs.FormLaws.{length-regs, from-take, from-six}
+use Rattle.isa.specs.Codec.{bytesOf, firstBad, encodedWith, encodedOf, outputAfter, outputOf}
+
+-- a byte, then registers, then a number's bytes, each laid over what stood there
+module _ (out r : List ℕ) (byte n w v : ℕ) (h : 1 + n + w ≤ length out) (hr : n ≤ length r) where
+  first : (l : List ℕ) → 1 ≤ length l → take 1 (set l 0 byte) ≡ byte ∷ []
+  first [] k = absurd (omega arith)
+  first (x ∷ l) k = refl
+
+  pub put-all : (d e : List ℕ) → d ≡ paste (set out 0 byte) 1 (take n r) (length (take n r)) → e ≡ paste d (1 + n) (beBytes w v) w →
+      e ≡ (byte ∷ take n r ++ beBytes w v) ++ drop (1 + n + w) out
+  put-all d e p q =
+      let k : length (take n r) ≡ n = length-take-le n r hr in
+      let p′ : d ≡ paste (set out 0 byte) 1 (take n r) n = p ∙ ap (paste (set out 0 byte) 1 (take n r)) k in
+      let l : 1 ≤ length (set out 0 byte) = rw length-set (omega arith) in
+      let s : take n (take n r) ≡ take n r = take-all n (take n r) (omega arith) in
+      let t : take (1 + n) d ≡ byte ∷ take n r =
+          rw p′ (take-paste (set out 0 byte) 1 (take n r) n l (omega arith) ∙ ap (λ (x : List ℕ). x ++ take n (take n r)) (first out (omega arith)) ∙ rw s) in
+      let z : drop (1 + n + w) d ≡ drop (1 + n + w) out =
+          sym (drop-drop w (1 + n) d) ∙ ap (drop w) (rw p′ (drop-paste (set out 0 byte) 1 (take n r) n l (omega arith)))
+          ∙ drop-drop w (1 + n) (set out 0 byte) ∙ drop-set-lt (1 + n + w) out 0 byte (omega arith) in
+      let b : take w (beBytes w v) ≡ beBytes w v = take-all w (beBytes w v) (omega (arith, length-beBytes w v)) in
+      q ∙ rw (t, z, b)
+
+-- an instruction's bytes are as many as its opcode says
+pub length-bytes : (i : Instr) → length (bytesOf i) ≡ lengthOf (formOf i .op)
+unfolding bytesOf
+length-bytes i =
+    let o = formOf i .op in
+    omega (arith, length-append (formOf i .regs) (beBytes (wideOf o) (formOf i .number)), length-regs i, length-beBytes (wideOf o) (formOf i .number))
+
+-- the registers of an instruction stand first among its six
+pub six-regs : (i : Instr) → take (regsOf (formOf i .op)) (six (formOf i .regs)) ≡ formOf i .regs
+six-regs i =
+    let n = regsOf (formOf i .op) in
+    let r = formOf i .regs in
+    let k : n ≤ length r = omega (arith, length-regs i) in
+    sym (from-take n (six r) (small (formOf i .op) .regs)) ∙ from-six n r (small (formOf i .op) .regs) ∙ from-take n r k ∙ take-all n r (omega (arith, length-regs i))
+
+module _ (i : Instr) (out : List ℕ) where
+  -- an answer, with the output that goes with it
+  pub record Answers (a : Encoded) (e : List ℕ) : Type 0 where
+    pub answer : a ≡ encodedOf i out
+    pub output : e ≡ outputOf i out
+
+  by : (a : Encoded) (e : List ℕ) → a ≡ encodedOf i out → e ≡ outputAfter a (bytesOf i) out → Answers a e
+  unfolding outputOf
+  by a e p q = record { answer = p; output = q ∙ ap (λ (x : Encoded). outputAfter x (bytesOf i) out) p }
+
+  module _ (p : Parts) (row : Row) (ep : p ≡ padded (formOf i)) (er : row ≡ rowOf (p .0)) where
+    row-is : row ≡ rowOf (formOf i .op)
+    row-is = er ∙ ap (λ (q : Parts). rowOf (q .0)) ep
+
+    pub regs-stand : row .1 ≤ length (p .1)
+    regs-stand = rw (row-is, ep) (small (formOf i .op) .regs)
+
+    regs-are : take (row .1) (p .1) ≡ formOf i .regs
+    regs-are = rw (row-is, ep) (six-regs i)
+
+    encoded-by : (f : FirstBad) → firstBad (take (row .1) (p .1)) ≡ f → encodedWith f (1 + row .1 + row .2) (length out) ≡ encodedOf i out
+    unfolding encodedOf
+    encoded-by f h = rw (← h, regs-are, length-bytes i, row-is)
+
+    pub encoded-bad : (b : ℕ) → firstBad (take (row .1) (p .1)) ≡ Bad b → Answers (Refused (BadRegister b)) out
+    unfolding encodedWith outputAfter
+    encoded-bad b h = by (Refused (BadRegister b)) out (encoded-by (Bad b) h) refl
+
+    pub encoded-no-room : firstBad (take (row .1) (p .1)) ≡ NoneBad → length out < 1 + row .1 + row .2 → Answers (Refused NoRoom) out
+    unfolding encodedWith outputAfter
+    encoded-no-room h l = by (Refused NoRoom) out (sym (rw (lt-leb (1 + row .1 + row .2) (length out) l)) ∙ encoded-by NoneBad h) refl
+
+    pub encoded-done : firstBad (take (row .1) (p .1)) ≡ NoneBad → 1 + row .1 + row .2 ≤ length out → (e : List ℕ) →
+        e ≡ (row .0 ∷ take (row .1) (p .1) ++ beBytes (row .2) (p .2)) ++ drop (1 + row .1 + row .2) out → Answers (Done (1 + row .1 + row .2)) e
+    unfolding encodedWith outputAfter bytesOf
+    encoded-done h l e q =
+        by (Done (1 + row .1 + row .2)) e (sym (rw (le-leb (1 + row .1 + row .2) (length out) l)) ∙ encoded-by NoneBad h) (q ∙ rw (regs-are, row-is, ep))

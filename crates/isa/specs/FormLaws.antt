@@ -1,0 +1,102 @@
+-- Taking an instruction apart and putting it together undo one another. Assumes nothing.
+use Prim.Native.Nat.{ℕ, zero, suc, _+_, _≤_, _<_}
+use mathlib.Core.Path.{_≡_, refl, sym, ap, _∙_}
+use mathlib.Core.List.{List, [], _∷_, _++_}
+use native.Mathlib.Omega.{arith}
+use native.Mathlib.Nat.{add-zero, add-suc}
+use lib.Dec.{eqb}
+use lib.ListN.{length, take, drop, getD}
+use lib.Seq.{drop-cons}
+use Rattle.words.specs.Choice.{pick}
+use Rattle.isa.specs.declared.opcode.OpCode.{OpCode}
+use Rattle.isa.specs.declared.opcode.OpCode.the-variants as op
+use Rattle.isa.specs.declared.instr.Instr.{Instr}
+use Rattle.isa.specs.declared.instr.Instr.the-variants as instr
+use Rattle.isa.specs.Table.{rowOf, regsOf, wideOf}
+use Rattle.isa.specs.TableLaws.{small}
+use Rattle.isa.specs.Forms.{Form, form, formOf, instrOf, at, six}
+
+-- an instruction is that of its form
+pub rebuilt : (i : Instr) → instrOf (formOf i .op) (formOf i .regs) (formOf i .number) ≡ i
+unfolding formOf instrOf
+rebuilt i =
+    elim i [
+      instr.Halt ↦ refl | instr.Nop ↦ refl | instr.Mov d a ↦ refl | instr.Ldi d imm ↦ refl | instr.Ldc d idx ↦ refl |
+      instr.Add d a b ↦ refl | instr.Sub d a b ↦ refl | instr.Mul d a b ↦ refl | instr.Div d a b ↦ refl |
+      instr.Rem d a b ↦ refl | instr.AddW d a b ↦ refl | instr.SubW d a b ↦ refl | instr.MulW d a b ↦ refl |
+      instr.MulHi d a b ↦ refl | instr.DivW dlo dhi alo ahi blo bhi ↦ refl |
+      instr.RemW dlo dhi alo ahi blo bhi ↦ refl | instr.And d a b ↦ refl | instr.Or d a b ↦ refl |
+      instr.Xor d a b ↦ refl | instr.Not d a ↦ refl | instr.Shl d a b ↦ refl | instr.Shr d a b ↦ refl |
+      instr.Eq d a b ↦ refl | instr.LtU d a b ↦ refl | instr.GtU d a b ↦ refl | instr.Push a ↦ refl |
+      instr.Pop d ↦ refl | instr.MLoad d a ↦ refl | instr.MStore a b ↦ refl | instr.Jmp target ↦ refl |
+      instr.Jz a target ↦ refl | instr.Jnz a target ↦ refl | instr.Call target ↦ refl | instr.Ret ↦ refl |
+      instr.SLoad d a ↦ refl | instr.SStore a b ↦ refl | instr.Send a b c ↦ refl | instr.Emit a b c ↦ refl |
+      instr.Hash a b c ↦ refl | instr.VerifyMl a b c ↦ refl | instr.VerifySlh a b c ↦ refl |
+      instr.MerkleVerify a b c ↦ refl | instr.Addr a b c ↦ refl ]
+
+-- n registers of a list from place k on
+abbrev pub from : (k n : ℕ) → List ℕ → List ℕ
+from k zero r = []
+from k (suc n) r = at r k ∷ from (suc k) n r
+
+-- what an opcode keeps of a list of registers and a number
+abbrev pub kept : OpCode → List ℕ → ℕ → Form
+kept o r n = form o (from 0 (regsOf o) r) (pick (eqb (wideOf o) 0) 0 n)
+
+-- the form of an instruction that was put together is what its opcode keeps
+pub taken : (o : OpCode) (r : List ℕ) (n : ℕ) → formOf (instrOf o r n) ≡ kept o r n
+unfolding rowOf formOf instrOf
+taken o r n =
+    elim o [
+      op.Halt ↦ refl | op.Nop ↦ refl | op.Mov ↦ refl | op.Ldi ↦ refl | op.Ldc ↦ refl | op.Add ↦ refl |
+      op.Sub ↦ refl | op.Mul ↦ refl | op.Div ↦ refl | op.Rem ↦ refl | op.AddW ↦ refl | op.SubW ↦ refl |
+      op.MulW ↦ refl | op.MulHi ↦ refl | op.DivW ↦ refl | op.RemW ↦ refl | op.And ↦ refl | op.Or ↦ refl |
+      op.Xor ↦ refl | op.Not ↦ refl | op.Shl ↦ refl | op.Shr ↦ refl | op.Eq ↦ refl | op.LtU ↦ refl | op.GtU ↦ refl |
+      op.Push ↦ refl | op.Pop ↦ refl | op.MLoad ↦ refl | op.MStore ↦ refl | op.Jmp ↦ refl | op.Jz ↦ refl |
+      op.Jnz ↦ refl | op.Call ↦ refl | op.Ret ↦ refl | op.SLoad ↦ refl | op.SStore ↦ refl | op.Send ↦ refl |
+      op.Emit ↦ refl | op.Hash ↦ refl | op.VerifyMl ↦ refl | op.VerifySlh ↦ refl | op.MerkleVerify ↦ refl |
+      op.Addr ↦ refl ]
+
+-- two instructions of one form are one
+pub same-form : (i j : Instr) → formOf i ≡ formOf j → i ≡ j
+same-form i j e = sym (rebuilt i) ∙ ap (λ (f : Form). instrOf (f .op) (f .regs) (f .number)) e ∙ rebuilt j
+
+length-from : (k n : ℕ) (r : List ℕ) → length (from k n r) ≡ n
+length-from k zero r = refl
+length-from k (suc n) r = ap suc (length-from (suc k) n r)
+
+-- an instruction keeps all of its form
+pub keeps : (i : Instr) → formOf i ≡ kept (formOf i .op) (formOf i .regs) (formOf i .number)
+keeps i = ap formOf (sym (rebuilt i)) ∙ taken (formOf i .op) (formOf i .regs) (formOf i .number)
+
+-- an instruction has as many registers as its opcode
+pub length-regs : (i : Instr) → length (formOf i .regs) ≡ regsOf (formOf i .op)
+length-regs i = ap (λ (f : Form). length (f .regs)) (keeps i) ∙ length-from 0 (regsOf (formOf i .op)) (formOf i .regs)
+
+from-drop : (k n : ℕ) (r : List ℕ) → k + n ≤ length r → from k n r ≡ take n (drop k r)
+from-drop k zero r h = refl
+from-drop k (suc n) r h = rw (drop-cons r k 0 (omega arith), from-drop (suc k) n r (omega arith))
+
+-- registers that stand are kept as they stand
+pub from-take : (n : ℕ) (r : List ℕ) → n ≤ length r → from 0 n r ≡ take n r
+from-take n r h = from-drop 0 n r (omega arith)
+
+-- an opcode looks at no more than its own registers
+pub same-regs : (o : OpCode) (r s : List ℕ) (n : ℕ) → from 0 (regsOf o) r ≡ from 0 (regsOf o) s → instrOf o r n ≡ instrOf o s n
+same-regs o r s n e =
+    same-form (instrOf o r n) (instrOf o s n)
+    (taken o r n ∙ ap (λ (l : List ℕ). form o l (pick (eqb (wideOf o) 0) 0 n)) e ∙ sym (taken o s n))
+
+pub from-six : (n : ℕ) (r : List ℕ) → n ≤ 6 → from 0 n (six r) ≡ from 0 n r
+from-six zero r h = refl
+from-six (suc zero) r h = refl
+from-six (suc (suc zero)) r h = refl
+from-six (suc (suc (suc zero))) r h = refl
+from-six (suc (suc (suc (suc zero)))) r h = refl
+from-six (suc (suc (suc (suc (suc zero))))) r h = refl
+from-six (suc (suc (suc (suc (suc (suc zero)))))) r h = refl
+from-six (suc (suc (suc (suc (suc (suc (suc n))))))) r h = absurd (omega arith)
+
+-- six registers are enough for any opcode
+pub six-enough : (o : OpCode) (r : List ℕ) (n : ℕ) → instrOf o (six r) n ≡ instrOf o r n
+six-enough o r n = same-regs o (six r) r n (from-six (regsOf o) r (small o .regs))

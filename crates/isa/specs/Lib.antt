@@ -1,0 +1,9 @@
+pub mod Table
+pub mod Forms
+pub mod Codec
+pub mod Answers
+pub mod Told
+pub mod TableLaws
+pub mod FormLaws
+pub mod DecodeLaws
+pub mod EncodeLaws

@@ -1,0 +1,90 @@
+-- Laws of the opcode table: every opcode is found by its byte, and what a test says of every row holds of each. Assumes nothing.
+use Prim.Native.Nat.{ℕ, _+_, _≤_}
+use mathlib.Core.Path.{_≡_, refl, sym}
+use mathlib.Core.List.{List, [], _∷_}
+use mathlib.Core.Bool.{Bool, true, false}
+use lib.Dec.{leb, eqb}
+use native.Mathlib.Omega.{arith}
+use borrow.Author.Tests.{ne-eqb, leb-true, eqb-true}
+use Rattle.words.specs.Choice.{pick}
+use Rattle.isa.specs.declared.opcode.OpCode.{OpCode}
+use Rattle.isa.specs.declared.opcode.OpCode.the-variants as op
+use Rattle.isa.specs.declared.opcode.Op.{Op}
+use Rattle.isa.specs.declared.opcode.Op.the-variants.{Known, Unknown}
+use Rattle.isa.specs.Table.{rowOf, byteOf, regsOf, wideOf, lengthOf, find, opAt, opcodes}
+
+-- what the last arm of a match on a byte is given: that the byte is none of the listed opcodes'
+abbrev pub Rest : Type 0 → List OpCode → ℕ → Type 0
+Rest N [] b = N
+Rest N (o ∷ os) b = Rest (N × (b ≡ byteOf o → ⊥)) os b
+
+pub none-of : (N : Type 0) (os : List OpCode) (b : ℕ) → Rest N os b → (find b os ≡ Unknown) × N
+unfolding find
+none-of N [] b r = (refl, r)
+none-of N (o ∷ os) b r =
+    let h = none-of (N × (b ≡ byteOf o → ⊥)) os b r in
+    (rw (ne-eqb b (byteOf o) (h .1 .1)) (h .0), h .1 .0)
+
+-- every opcode is found by its byte
+pub known : (o : OpCode) → opAt (byteOf o) ≡ Known o
+unfolding rowOf find opAt
+known o =
+    elim o [
+      op.Halt ↦ refl | op.Nop ↦ refl | op.Mov ↦ refl | op.Ldi ↦ refl | op.Ldc ↦ refl | op.Add ↦ refl |
+      op.Sub ↦ refl | op.Mul ↦ refl | op.Div ↦ refl | op.Rem ↦ refl | op.AddW ↦ refl | op.SubW ↦ refl |
+      op.MulW ↦ refl | op.MulHi ↦ refl | op.DivW ↦ refl | op.RemW ↦ refl | op.And ↦ refl | op.Or ↦ refl |
+      op.Xor ↦ refl | op.Not ↦ refl | op.Shl ↦ refl | op.Shr ↦ refl | op.Eq ↦ refl | op.LtU ↦ refl | op.GtU ↦ refl |
+      op.Push ↦ refl | op.Pop ↦ refl | op.MLoad ↦ refl | op.MStore ↦ refl | op.Jmp ↦ refl | op.Jz ↦ refl |
+      op.Jnz ↦ refl | op.Call ↦ refl | op.Ret ↦ refl | op.SLoad ↦ refl | op.SStore ↦ refl | op.Send ↦ refl |
+      op.Emit ↦ refl | op.Hash ↦ refl | op.VerifyMl ↦ refl | op.VerifySlh ↦ refl | op.MerkleVerify ↦ refl |
+      op.Addr ↦ refl ]
+
+-- what holds of each listed opcode
+abbrev pub All : (OpCode → Type 0) → List OpCode → Type 0
+All P [] = Unit {0}
+All P (o ∷ os) = P o × All P os
+
+found : (P : OpCode → Type 0) (b : ℕ) (os : List OpCode) (o : OpCode) → All P os → find b os ≡ Known o → P o
+unfolding find
+found P b [] o p h = absurd (let z : _≡_ {A = ℕ} 0 1 = cc in omega arith)
+found P b (x ∷ os) o p h = by (eqb b (byteOf x)) h (found P b os o (p .1))
+  where
+    by : (t : Bool) → pick t (Known x) (find b os) ≡ Known o → (find b os ≡ Known o → P o) → P o
+    by true k r = let e : x ≡ o = cc in rw e at (p .0)
+    by false k r = r k
+
+-- what holds of every listed opcode holds of each opcode
+pub each : (P : OpCode → Type 0) → All P opcodes → (o : OpCode) → P o
+unfolding opAt
+each P p o = found P (byteOf o) opcodes o p (known o)
+
+-- a test that holds of every listed opcode
+abbrev pub allOf : (OpCode → Bool) → List OpCode → Bool
+allOf f [] = true
+allOf f (o ∷ os) = pick (f o) (allOf f os) false
+
+all-of : (f : OpCode → Bool) (os : List OpCode) → allOf f os ≡ true → All (λ (o : OpCode). f o ≡ true) os
+all-of f [] h = tt
+all-of f (o ∷ os) h = by (f o) refl h (all-of f os)
+  where
+    by : (t : Bool) → f o ≡ t → pick t (allOf f os) false ≡ true → (allOf f os ≡ true → All (λ (o : OpCode). f o ≡ true) os) → (f o ≡ true) × All (λ (o : OpCode). f o ≡ true) os
+    by true e k r = (e, r k)
+    by false e k r = absurd (let z : false ≡ true = k in let y : _≡_ {A = ℕ} 0 1 = cc in omega arith)
+
+-- a test computed over the table holds at each opcode
+pub tests : (f : OpCode → Bool) → allOf f opcodes ≡ true → (o : OpCode) → f o ≡ true
+tests f h = each (λ (o : OpCode). f o ≡ true) (all-of f opcodes h)
+
+-- no opcode has more than 6 registers, more than 8 bytes of number or more than 10 bytes in all
+pub record Small (o : OpCode) : Type 0 where
+  pub regs : regsOf o ≤ 6
+  pub wide : wideOf o ≤ 8
+  pub length : lengthOf o ≤ 10
+
+pub small : (o : OpCode) → Small o
+unfolding rowOf
+small o = record {
+  regs = leb-true _ _ (tests (λ (o : OpCode). leb (regsOf o) 6) refl o);
+  wide = leb-true _ _ (tests (λ (o : OpCode). leb (wideOf o) 8) refl o);
+  length = leb-true _ _ (tests (λ (o : OpCode). leb (lengthOf o) 10) refl o);
+}

@@ -61,7 +61,7 @@ pub read-within : (s : List ℕ) (n w v : ℕ) → n + w ≤ length s → Bytes 
 read-within s n w v h k e = rw e (num-below w (drop n s) (rw length-drop (omega arith)) (λ (j : ℕ). rw getD-drop (k (n + j))))
 
 -- a slice from k on is the list without its first k
-rest : (k : ℕ) (s : List ℕ) → take (length s - k) (drop k s) ≡ drop k s
+pub rest : (k : ℕ) (s : List ℕ) → take (length s - k) (drop k s) ≡ drop k s
 rest k s = take-all (length s - k) (drop k s) (rw length-drop (omega arith))
 
 module _ (o : OpCode) (s : List ℕ) (row : Row) (r : row ≡ rowOf o) where
@@ -94,7 +94,6 @@ module _ (code : List ℕ) (place : ℕ) where
   unfolding decodeAt decodeList afterOpcode
   no-opcode h e = rw (drop-cons code place 0 h, e)
 
-  pub an-opcode : place < length code → (o : OpCode) → opAt (getD code place 0) ≡ Known o →
-      operandsOf o (take (length code - (place + 1)) (drop (place + 1) code)) ≡ decodeAt code place
+  pub an-opcode : place < length code → (o : OpCode) → opAt (getD code place 0) ≡ Known o → operandsOf o (drop (place + 1) code) ≡ decodeAt code place
   unfolding decodeAt decodeList afterOpcode
-  an-opcode h o e = rw (rest, add-one place, drop-cons code place 0 h, e)
+  an-opcode h o e = rw (add-one place, drop-cons code place 0 h, e)

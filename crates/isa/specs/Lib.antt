@@ -7,3 +7,7 @@ pub mod TableLaws
 pub mod FormLaws
 pub mod DecodeLaws
 pub mod EncodeLaws
+pub mod Range
+pub mod RoundTrip
+pub mod Refusals
+pub mod Cases

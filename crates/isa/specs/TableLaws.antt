@@ -53,6 +53,20 @@ found P b (x ∷ os) o p h = by (eqb b (byteOf x)) h (found P b os o (p .1))
     by true k r = let e : x ≡ o = cc in rw e at (p .0)
     by false k r = r k
 
+-- an opcode that is found by a byte has it
+find-byte : (b : ℕ) (os : List OpCode) (o : OpCode) → find b os ≡ Known o → b ≡ byteOf o
+unfolding find
+find-byte b [] o h = absurd (let z : _≡_ {A = ℕ} 0 1 = cc in omega arith)
+find-byte b (x ∷ os) o h = by (eqb b (byteOf x)) refl h (find-byte b os o)
+  where
+    by : (t : Bool) → eqb b (byteOf x) ≡ t → pick t (Known x) (find b os) ≡ Known o → (find b os ≡ Known o → b ≡ byteOf o) → b ≡ byteOf o
+    by true q k r = let e : x ≡ o = cc in rw (← e) (eqb-true b (byteOf x) q)
+    by false q k r = r k
+
+pub opcode-byte : (b : ℕ) (o : OpCode) → opAt b ≡ Known o → b ≡ byteOf o
+unfolding opAt
+opcode-byte b o h = find-byte b opcodes o h
+
 -- what holds of every listed opcode holds of each opcode
 pub each : (P : OpCode → Type 0) → All P opcodes → (o : OpCode) → P o
 unfolding opAt

@@ -1,9 +1,10 @@
 -- `decode` meets its contract, a law for each return. Assumes nothing.
 use mathlib.Core.Path.{sym, _∙_}
+use Prim.Native.Nat.{_+_}
 use native.Mathlib.Omega.{arith}
 use denote.Ref.{now}
 use borrow.Author.Needs.{needs}
-use Rattle.isa.specs.DecodeLaws.{past-end, no-opcode, an-opcode}
+use Rattle.isa.specs.DecodeLaws.{rest, past-end, no-opcode, an-opcode}
 use Rattle.isa.proofs.codec.decode.Statement.{statement}
 use Rattle.isa.proofs.codec.decode.Tie as tie
 
@@ -48,7 +49,8 @@ returns-3 c =
     let o = c .before .before .before in
     let f = o .before .before in
     let a = f .before .before .before .before .args in
-    c .operands .ensures ∙ an-opcode (now (a .code)) (a .place) (omega arith) (o .op .given .0 .0) (sym (f .from-byte .ensures) ∙ o .op .given .1)
+    c .operands .ensures ∙ rw (rest (a .place + 1) (now (a .code)))
+    (an-opcode (now (a .code)) (a .place) (omega arith) (o .op .given .0 .0) (sym (f .from-byte .ensures) ∙ o .op .given .1))
 
 pub decode-spec : {M : Type 1} → statement M
 decode-spec =

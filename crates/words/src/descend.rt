@@ -1,6 +1,5 @@
 // Quotient and remainder from an estimate of the quotient that is not below it.
 ghost use mathlib.Core.Path.{_≡_};
-ghost use mathlib.Core.Bool.{Bool};
 ghost use Prim.Native.Nat.{_+_, _*_, _/_, _≤_, _<_};
 ghost use lib.Dec.{leb};
 ghost use Rattle.words.specs.Wide.{wide, Divides};

@@ -69,8 +69,8 @@ fn upper(n: Wide, m: u64) -> Wide
     product_plus(n.hi, m, p.hi)
 }
 
-// A divisor of two words. A factor m brings it to just below three words, and the upper words of n
-// and d, so multiplied, give the estimate.
+// A divisor of two words. A factor m, at most 2^64 / (d.hi + 1), brings it near the top of three
+// words, and the upper words of n * m and d * m give the estimate.
 fn by_wide(n: Wide, d: Wide) -> Divided
     requires { ⌜ 0 < d .hi ⌝ }
     ensures { λ r. ⌜ Divides (wide n) (wide d) (wide (r .q)) (wide (r .r)) ⌝ }

@@ -1,14 +1,14 @@
 -- Comparing and taking away numbers of two words, and an estimate that comes down to the quotient. Assumes nothing.
-use mathlib.Core.Path.{_≡_, refl, sym, ap, _∙_, subst}
+use mathlib.Core.Path.{_≡_, refl, sym}
 use mathlib.Core.Bool.{Bool, true, false}
 use Prim.Native.Nat.{ℕ, suc, _+_, _*_, _-_, _/_, _^_, _≤_, _<_}
 use native.Mathlib.Omega.{arith}
-use native.Mathlib.Nat.{le-trans, mul-assoc, mul-add, suc-mul, mul-le-mul-right, sub-le, zero-add, div-lt-iff-lt-mul}
+use native.Mathlib.Nat.{le-trans, suc-mul, mul-le-mul-right, sub-le, zero-add, div-lt-iff-lt-mul}
 use lib.Dec.{leb, ltb}
 use borrow.Author.Tests.{le-leb, lt-leb, leb-true, leb-false, ltb-true, ltb-false}
 use Rattle.words.specs.declared.product.Wide.{Wide}
 use Rattle.words.specs.Wide.{wide, Divides}
-use Rattle.words.proofs.Words.{Estimate}
+use Rattle.words.proofs.Words.{Estimate, mul-digits}
 
 -- a test that decides an order is that order's
 decides : (t : Bool) (a b : ℕ) → (t ≡ true → a ≤ b) → (t ≡ false → b < a) → t ≡ leb a b
@@ -40,9 +40,7 @@ abbrev pub left : Wide → Wide → ℕ → ℕ
 left n d e = (n .hi - e * d .hi) * 2 ^ 64 + n .lo
 
 left-of : (n d : Wide) (e : ℕ) → e * d .hi ≤ n .hi → wide n + e * d .lo ≡ e * wide d + left n d e
-left-of n d e h =
-    let w : e * wide d ≡ e * d .hi * 2 ^ 64 + e * d .lo = mul-add e (d .hi * 2 ^ 64) (d .lo) ∙ ap (λ (x : ℕ). x + e * d .lo) (sym (mul-assoc e (d .hi) (2 ^ 64))) in
-    omega arith
+left-of n d e h = omega (arith, mul-digits e (d .hi) (2 ^ 64) (d .lo))
 
 -- an estimate whose product can be taken away is the quotient
 pub ends : (n d : Wide) (e p r : ℕ) → Estimate n d e → p ≡ e * d .lo → left n d e ≡ p + r → Divides (wide n) (wide d) (0 * 2 ^ 64 + e) r
@@ -55,6 +53,9 @@ ends n d e p r i ep er =
 -- an estimate whose product cannot is above it, and one less is an estimate still
 pub above : (n d : Wide) (e p : ℕ) → Estimate n d e → p ≡ e * d .lo → left n d e < p → wide n / wide d < e
 above n d e p i ep lt = div-lt-iff-lt-mul {k = wide d} {x = wide n} {y = e} (i .0) .1 (omega (arith, left-of n d e (i .2)))
+
+pub above-some : {q e : ℕ} → q < e → 1 ≤ e
+above-some h = omega arith
 
 pub comes-down : (n d : Wide) (e : ℕ) → Estimate n d e → wide n / wide d < e → Estimate n d (e - 1)
 comes-down n d e i lt = (i .0, omega arith, le-trans (mul-le-mul-right (d .hi) (sub-le e 1)) (i .2))

@@ -1,13 +1,13 @@
 -- Quotients by scaled divisors and by their upper parts. Assumes nothing.
-use mathlib.Core.Path.{_≡_, sym, ap, _∙_}
+use mathlib.Core.Path.{_≡_, sym, _∙_}
 use Prim.Native.Nat.{ℕ, suc, _+_, _*_, _-_, _/_, _%_, _^_, _≤_, _<_}
 use native.Mathlib.Omega.{arith}
-use native.Mathlib.Nat.{le-trans, le-of-eq, lt-of-lt-of-le, zero-add, one-mul, mul-comm, mul-assoc, mul-add, add-mul, suc-mul, mul-right-comm, mul-pos, mul-le-mul-left, mul-le-mul-right, mul-lt-mul-of-pos-right, lt-of-mul-lt-mul-right, mod-lt, div-mul-le-self, mul-div-le, div-lt-iff-lt-mul, le-div-iff-mul-le, mul-div-mul-right, div-add-mod', div-div-eq-div-mul}
+use native.Mathlib.Nat.{le-trans, le-of-eq, lt-of-lt-of-le, zero-add, one-mul, mul-comm, mul-assoc, suc-mul, mul-pos, mul-le-mul-left, mul-le-mul-right, mul-lt-mul-of-pos-right, lt-of-mul-lt-mul-right, mod-lt, div-mul-le-self, mul-div-le, div-lt-iff-lt-mul, le-div-iff-mul-le, mul-div-mul-right, div-add-mod', div-div-eq-div-mul}
 use lib.Arith.{digits-div}
 use Rattle.words.specs.declared.product.Wide.{Wide}
 use Rattle.words.specs.Wide.{wide, Divides}
 use Rattle.words.specs.WideLaws.{quotient}
-use Rattle.words.proofs.Words.{Estimate, upper-word}
+use Rattle.words.proofs.Words.{Estimate, digits-mul, upper-word}
 
 -- a quotient of upper parts is not below the quotient
 coarser : (n d b : ℕ) → 0 < b → 0 < d / b → n / d ≤ n / b / (d / b)
@@ -20,11 +20,11 @@ below : (n d q r k : ℕ) → Divides n d q r → n < k * d → q < k
 below n d q r k h lt = rw (quotient n d q r h) (div-lt-iff-lt-mul {k = d} {x = n} {y = k} (omega (arith, h .1)) .1 lt)
 
 -- a number of two words whose upper word is 0, or that one word holds, is its lower word
-pub only-low : (w : Wide) → w .hi ≡ 0 → wide w ≡ w .lo
-only-low w e = omega arith
+pub no-upper : (w : Wide) → w .hi ≡ 0 → wide w ≡ w .lo
+no-upper w e = omega arith
 
-low-only : (w : Wide) → wide w < 2 ^ 64 → wide w ≡ w .lo
-low-only w h = only-low w (omega arith)
+one-word : (w : Wide) → wide w < 2 ^ 64 → wide w ≡ w .lo
+one-word w h = no-upper w (omega arith)
 
 -- by one word: an estimate is any number not below the quotient
 pub by-one : (n : Wide) (v e : ℕ) → 0 < v → wide n / v ≤ e → Estimate n (record { hi = 0; lo = v }) e
@@ -46,7 +46,7 @@ pub digit-ends : (rest next v : ℕ) (q r : Wide) → rest < v → v < 2 ^ 64 �
 digit-ends rest next v q r l f w h =
     let d : Divides (rest * 2 ^ 32 + next) v (wide q) (wide r) = rw (rejoined rest next, zero-add v) at h in
     let b : wide q < 2 ^ 32 = below (rest * 2 ^ 32 + next) v (wide q) (wide r) (2 ^ 32) d (omega arith) in
-    rw (← low-only q (omega arith), ← low-only r (omega (arith, d .1))) (d, b)
+    rw (← one-word q (omega arith), ← one-word r (omega (arith, d .1))) (d, b)
 
 -- the factor by which a word comes to the upper half of a word's range
 pub factor : (v : ℕ) → 0 < v → v < 2 ^ 64 → (0 < (2 ^ 64 - 1) / v) × (2 ^ 32 ≤ v * ((2 ^ 64 - 1) / v)) × (v * ((2 ^ 64 - 1) / v) < 2 ^ 64)
@@ -58,9 +58,9 @@ factor v pos f =
     let r : (2 ^ 64 - 1) % v < v = mod-lt (2 ^ 64 - 1) pos in
     rw (mul-comm v m) (one, omega arith, omega arith)
 
--- a number of two words times one: the upper two words, and where they are fewer
+-- a number of two words times a word, whose product with the lower word is p
 times : (h l m : ℕ) (p : Wide) → wide p ≡ l * m → (h * 2 ^ 64 + l) * m ≡ (h * m + p .hi) * 2 ^ 64 + p .lo
-times h l m p e = omega (arith, add-mul (h * 2 ^ 64) l m, mul-right-comm h (2 ^ 64) m)
+times h l m p e = omega (arith, digits-mul h (2 ^ 64) l m)
 
 pub upper-words : (n : Wide) (m : ℕ) (p : Wide) (u : ℕ) → p .lo < 2 ^ 64 → wide p ≡ n .lo * m → u ≡ n .hi * m + p .hi → u ≡ wide n * m / 2 ^ 64
 upper-words n m p u w ep eu = eu ∙ upper-word (n .hi * m + p .hi) (p .lo) (wide n * m) w (sym (times (n .hi) (n .lo) m p ep))
@@ -77,8 +77,7 @@ pub two-digits : (h l v m : ℕ) (p : Wide) (a b r s : ℕ) → 0 < m → wide p
     → Divides (r * 2 ^ 32 + p .lo % 2 ^ 32) (v * m) b s
     → a * 2 ^ 32 + b ≡ (h * 2 ^ 64 + l) / v
 two-digits h l v m p a b r s pos e x y =
-    let w : (a * 2 ^ 32 + b) * (v * m) ≡ a * (v * m) * 2 ^ 32 + b * (v * m) = add-mul (a * 2 ^ 32) b (v * m) ∙ ap (λ (k : ℕ). k + b * (v * m)) (mul-right-comm a (2 ^ 32) (v * m)) in
-    let n : (h * 2 ^ 64 + l) * m ≡ (a * 2 ^ 32 + b) * (v * m) + s = omega (arith, times h l m p e, x .0, y .0) in
+    let n : (h * 2 ^ 64 + l) * m ≡ (a * 2 ^ 32 + b) * (v * m) + s = omega (arith, times h l m p e, digits-mul a (2 ^ 32) b (v * m), x .0, y .0) in
     quotient ((h * 2 ^ 64 + l) * m) (v * m) (a * 2 ^ 32 + b) s (n, y .1) ∙ mul-div-mul-right (h * 2 ^ 64 + l) v pos
 
 -- long division by a word: the upper word's quotient, then that of what it leaves and the lower word
@@ -89,10 +88,9 @@ long-division n d q r pos w h =
     let x : Divides (n .hi % d * 2 ^ 64 + n .lo) d (wide q) (wide r) = rw (zero-add d) at h in
     let b : wide q < 2 ^ 64 = below (n .hi % d * 2 ^ 64 + n .lo) d (wide q) (wide r) (2 ^ 64) x (omega (arith, mod-lt (n .hi) pos)) in
     let k : n .hi / d * d + n .hi % d ≡ n .hi = div-add-mod' (n .hi) d in
-    let m : (n .hi / d * 2 ^ 64 + wide q) * d ≡ n .hi / d * d * 2 ^ 64 + wide q * d = add-mul (n .hi / d * 2 ^ 64) (wide q) d ∙ ap (λ (y : ℕ). y + wide q * d) (mul-right-comm (n .hi / d) (2 ^ 64) d) in
-    rw (← low-only q b) (omega (arith, k, m, x .0), x .1)
+    rw (← one-word q b) (omega (arith, digits-mul (n .hi / d) (2 ^ 64) (wide q) d, x .0), x .1)
 
--- the factor that brings a divisor of two words just below three
+-- the factor by which a divisor of two words comes near the top of three
 spread : (h : ℕ) → h < 2 ^ 64 → (0 < 2 ^ 63 / (h / 2 + 1)) × (h * (2 ^ 63 / (h / 2 + 1)) + 2 ^ 63 / (h / 2 + 1) ≤ 2 ^ 64)
 spread h f =
     let k : ℕ = h / 2 + 1 in
@@ -106,8 +104,7 @@ spread h f =
 between : (w : Wide) (m t : ℕ) → w .lo < 2 ^ 64 → 0 < m → t ≡ wide w * m / 2 ^ 64 → (w .hi * m ≤ t) × (t < w .hi * m + m)
 between w m t f pos e =
     let a : w .lo * m < 2 ^ 64 * m = mul-lt-mul-of-pos-right f pos in
-    let k : wide w * m ≡ w .hi * m * 2 ^ 64 + w .lo * m = add-mul (w .hi * 2 ^ 64) (w .lo) m ∙ ap (λ (x : ℕ). x + w .lo * m) (mul-right-comm (w .hi) (2 ^ 64) m) in
-    rw (e, k) (
+    rw (e, digits-mul (w .hi) (2 ^ 64) (w .lo) m) (
       le-div-iff-mul-le {k = 2 ^ 64} {x = w .hi * m} {y = w .hi * m * 2 ^ 64 + w .lo * m} (omega arith) .1 (omega arith),
       div-lt-iff-lt-mul {k = 2 ^ 64} {x = w .hi * m * 2 ^ 64 + w .lo * m} {y = w .hi * m + m} (omega arith) .1 (omega arith),
     )
@@ -131,7 +128,7 @@ by-upper n d u v m pos dh dl nh nl em eu ev =
     let s : (0 < m) × (d .hi * m + m ≤ 2 ^ 64) = rw em (spread (d .hi) dh) in
     let bv = between d m (wide v) dl (s .0) ev in
     let bu = between n m (wide u) nl (s .0) eu in
-    let one : wide v ≡ v .lo = low-only v (lt-of-lt-of-le (bv .1) (s .1)) in
+    let one : wide v ≡ v .lo = one-word v (lt-of-lt-of-le (bv .1) (s .1)) in
     let least : m ≤ wide v = le-trans (rw (one-mul m) at (mul-le-mul-right m pos)) (bv .0) in
     let some : 0 < wide v = lt-of-lt-of-le (s .0) least in
     let q : wide n / wide d ≤ wide u / wide v = rw (← mul-div-mul-right (wide n) (wide d) (s .0), eu, ev) (coarser (wide n * m) (wide d * m) (2 ^ 64) (omega arith) (rw ev at some)) in

@@ -1,8 +1,9 @@
 -- Products of half words, and the columns of a product of words. Assumes nothing.
-use mathlib.Core.Path.{_≡_, sym, ap, _∙_}
+use mathlib.Core.Path.{_≡_, _∙_}
 use Prim.Native.Nat.{ℕ, _+_, _*_, _-_, _/_, _%_, _^_, _≤_, _<_}
 use native.Mathlib.Omega.{arith}
-use native.Mathlib.Nat.{mul-le-mul, mul-add, add-mul, mul-assoc, mul-right-comm, div-add-mod'}
+use native.Mathlib.Nat.{mul-le-mul, div-add-mod'}
+use Rattle.words.proofs.Words.{digits-mul, mul-digits}
 
 -- a product of two half words leaves room for two more
 pub room : (a b : ℕ) → a < 2 ^ 32 → b < 2 ^ 32 → a * b ≤ (2 ^ 32 - 1) * (2 ^ 32 - 1)
@@ -10,11 +11,7 @@ room a b h k = mul-le-mul {n₁ = a} {m₁ = b} {n₂ = 2 ^ 32 - 1} {m₂ = 2 ^ 
 
 -- a product of two numbers in halves
 halves : (a b c d : ℕ) → (a * 2 ^ 32 + b) * (c * 2 ^ 32 + d) ≡ a * c * 2 ^ 64 + (a * d + b * c) * 2 ^ 32 + b * d
-halves a b c d =
-    let left : a * 2 ^ 32 * (c * 2 ^ 32 + d) ≡ a * (c * 2 ^ 32 + d) * 2 ^ 32 = mul-right-comm a (2 ^ 32) (c * 2 ^ 32 + d) in
-    let inner : a * (c * 2 ^ 32 + d) ≡ a * c * 2 ^ 32 + a * d = mul-add a (c * 2 ^ 32) d ∙ ap (λ (x : ℕ). x + a * d) (sym (mul-assoc a c (2 ^ 32))) in
-    let right : b * (c * 2 ^ 32 + d) ≡ b * c * 2 ^ 32 + b * d = mul-add b (c * 2 ^ 32) d ∙ ap (λ (x : ℕ). x + b * d) (sym (mul-assoc b c (2 ^ 32))) in
-    omega (arith, add-mul (a * 2 ^ 32) b (c * 2 ^ 32 + d))
+halves a b c d = omega (arith, digits-mul a (2 ^ 32) b (c * 2 ^ 32 + d), mul-digits a c (2 ^ 32) d, mul-digits b c (2 ^ 32) d)
 
 -- the four columns of x * y + z
 pub columns : (x y z low mid side hi : ℕ)

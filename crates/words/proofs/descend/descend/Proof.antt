@@ -1,13 +1,13 @@
 -- `words::descend::descend` meets its contract. The loop's invariant: e is an estimate of the quotient; e itself falls. Assumes nothing.
 use mathlib.Core.Path.{sym, _∙_}
-use Prim.Native.Nat.{_+_, _*_, _/_, _^_, _<_}
+use Prim.Native.Nat.{_/_, _<_}
 use native.Mathlib.Omega.{arith}
 use mir.Facts.{fits-bits, fits-le}
 use borrow.Author.Tests.{leb-true, leb-false}
 use borrow.Author.Needs.{needs}
 use Rattle.words.specs.Wide.{wide}
 use Rattle.words.proofs.Words.{Estimate}
-use Rattle.words.proofs.descend.Laws.{left, ends, above, comes-down}
+use Rattle.words.proofs.descend.Laws.{left, ends, above, above-some, comes-down}
 use Rattle.words.proofs.descend.descend.Statement.{statement}
 use Rattle.words.proofs.descend.descend.Tie as tie
 
@@ -32,40 +32,44 @@ product-requires c κs = tt
 at-most-requires : tie.Need-at-most-requires Inv-loop μ-loop
 at-most-requires c κs = tt
 
+-- the turn's beginning, from where it has its product
+abbrev turn : tie.After-product Inv-loop μ-loop → tie.At-loop Inv-loop μ-loop
+turn p = p .before .before .before
+
 minus-requires : tie.Need-minus-requires Inv-loop μ-loop
 minus-requires c κs =
     let p = c .before .before in
-    let turn = p .before .before .before in
-    let a = turn .before .args in
-    leb-true (wide (p .product .result)) (left (a .n) (a .d) (turn .loop .e)) (sym (c .before .at-most .ensures) ∙ c .if1 .taken)
+    let l = turn p in
+    let a = l .before .args in
+    leb-true (wide (p .product .result)) (left (a .n) (a .d) (l .loop .e)) (sym (c .before .at-most .ensures) ∙ c .if1 .taken)
 
 returns : tie.Need-returns Inv-loop μ-loop
 returns c =
     let p = c .before .before .before in
-    let turn = p .before .before .before in
-    let a = turn .before .args in
-    ends (a .n) (a .d) (turn .loop .e) (wide (p .product .result)) (wide (c .minus .result)) (turn .loop .inv) (p .product .ensures) (c .minus .ensures)
+    let l = turn p in
+    let a = l .before .args in
+    ends (a .n) (a .d) (l .loop .e) (wide (p .product .result)) (wide (c .minus .result)) (l .loop .inv) (p .product .ensures) (c .minus .ensures)
 
 -- where the test fails, the estimate is above the quotient
-too-large : (c : tie.Else1 Inv-loop μ-loop) → let turn = c .before .before .before .before .before in wide (turn .before .args .n) / wide (turn .before .args .d) < turn .loop .e
+too-large : (c : tie.Else1 Inv-loop μ-loop) → let l = turn (c .before .before) in let a = l .before .args in wide (a .n) / wide (a .d) < l .loop .e
 too-large c =
     let p = c .before .before in
-    let turn = p .before .before .before in
-    let a = turn .before .args in
-    above (a .n) (a .d) (turn .loop .e) (wide (p .product .result)) (turn .loop .inv) (p .product .ensures)
-    (leb-false (wide (p .product .result)) (left (a .n) (a .d) (turn .loop .e)) (sym (c .before .at-most .ensures) ∙ c .if1 .left))
+    let l = turn p in
+    let a = l .before .args in
+    above (a .n) (a .d) (l .loop .e) (wide (p .product .result)) (l .loop .inv) (p .product .ensures)
+    (leb-false (wide (p .product .result)) (left (a .n) (a .d) (l .loop .e)) (sym (c .before .at-most .ensures) ∙ c .if1 .left))
 
 sub-e : tie.Need-sub-e Inv-loop μ-loop
-sub-e c = omega (arith, too-large c)
+sub-e c = above-some (too-large c)
 
 loop-less : tie.Need-loop-less Inv-loop μ-loop
 loop-less c = omega (arith, too-large c)
 
 loop-again : tie.Need-loop-again Inv-loop μ-loop
 loop-again c =
-    let turn = c .before .before .before .before .before in
-    let a = turn .before .args in
-    comes-down (a .n) (a .d) (turn .loop .e) (turn .loop .inv) (too-large c)
+    let l = turn (c .before .before) in
+    let a = l .before .args in
+    comes-down (a .n) (a .d) (l .loop .e) (l .loop .inv) (too-large c)
 
 pub descend-spec : {M : Type 1} → statement M
 descend-spec =

@@ -2,3 +2,5 @@ pub mod Choice
 pub mod Bytes
 pub mod BytesLaws
 pub mod BytesTheorems
+pub mod Wide
+pub mod WideLaws

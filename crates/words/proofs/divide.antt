@@ -1,0 +1,2 @@
+-- What the proofs of this module use: laws of quotients.
+mod Laws

@@ -1,0 +1,2 @@
+-- What the proofs of this module use: lemmas on plain numbers.
+mod Columns

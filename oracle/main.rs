@@ -1,0 +1,31 @@
+//! The QVM Rust as judge: `oracle codec|arith|verdict`, records on standard input, a line each on standard output.
+
+mod arith;
+mod codec;
+mod input;
+mod reader;
+mod verdict;
+
+use input::Input;
+use std::io::{self, Read, Write};
+
+fn main() -> io::Result<()> {
+    let name = std::env::args().nth(1).unwrap_or_default();
+    let line: fn(&mut Input) -> Option<String> = match name.as_str() {
+        "codec" => codec::line,
+        "arith" => arith::line,
+        "verdict" => verdict::line,
+        _ => {
+            eprintln!("usage: oracle codec|arith|verdict");
+            std::process::exit(2);
+        }
+    };
+    let mut bytes = Vec::new();
+    io::stdin().read_to_end(&mut bytes)?;
+    let mut input = Input { rest: &bytes };
+    let mut out = io::BufWriter::new(io::stdout().lock());
+    while !input.rest.is_empty() {
+        writeln!(out, "{}", line(&mut input).expect("a record is cut short"))?;
+    }
+    out.flush()
+}

@@ -37,10 +37,10 @@ module _ (out r : List ℕ) (byte n w v : ℕ) (h : 1 + n + w ≤ length out) (h
       let l : 1 ≤ length (set out 0 byte) = rw length-set (omega arith) in
       let s : take n (take n r) ≡ take n r = take-all n (take n r) (omega arith) in
       let t : take (1 + n) d ≡ byte ∷ take n r =
-          rw p′ (take-paste (set out 0 byte) 1 (take n r) n l (omega arith) ∙ ap (λ (x : List ℕ). x ++ take n (take n r)) (first out (omega arith)) ∙ rw s) in
+      rw p′ (take-paste (set out 0 byte) 1 (take n r) n l (omega arith) ∙ ap (λ (x : List ℕ). x ++ take n (take n r)) (first out (omega arith)) ∙ rw s) in
       let z : drop (1 + n + w) d ≡ drop (1 + n + w) out =
-          sym (drop-drop w (1 + n) d) ∙ ap (drop w) (rw p′ (drop-paste (set out 0 byte) 1 (take n r) n l (omega arith)))
-          ∙ drop-drop w (1 + n) (set out 0 byte) ∙ drop-set-lt (1 + n + w) out 0 byte (omega arith) in
+      sym (drop-drop w (1 + n) d) ∙ ap (drop w) (rw p′ (drop-paste (set out 0 byte) 1 (take n r) n l (omega arith)))
+      ∙ drop-drop w (1 + n) (set out 0 byte) ∙ drop-set-lt (1 + n + w) out 0 byte (omega arith) in
       let b : take w (beBytes w v) ≡ beBytes w v = take-all w (beBytes w v) (omega (arith, length-beBytes w v)) in
       q ∙ rw (t, z, b)
 

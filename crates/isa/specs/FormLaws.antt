@@ -21,18 +21,50 @@ pub rebuilt : (i : Instr) → instrOf (formOf i .op) (formOf i .regs) (formOf i 
 unfolding formOf instrOf
 rebuilt i =
     elim i [
-      instr.Halt ↦ refl | instr.Nop ↦ refl | instr.Mov d a ↦ refl | instr.Ldi d imm ↦ refl | instr.Ldc d idx ↦ refl |
-      instr.Add d a b ↦ refl | instr.Sub d a b ↦ refl | instr.Mul d a b ↦ refl | instr.Div d a b ↦ refl |
-      instr.Rem d a b ↦ refl | instr.AddW d a b ↦ refl | instr.SubW d a b ↦ refl | instr.MulW d a b ↦ refl |
-      instr.MulHi d a b ↦ refl | instr.DivW dlo dhi alo ahi blo bhi ↦ refl |
-      instr.RemW dlo dhi alo ahi blo bhi ↦ refl | instr.And d a b ↦ refl | instr.Or d a b ↦ refl |
-      instr.Xor d a b ↦ refl | instr.Not d a ↦ refl | instr.Shl d a b ↦ refl | instr.Shr d a b ↦ refl |
-      instr.Eq d a b ↦ refl | instr.LtU d a b ↦ refl | instr.GtU d a b ↦ refl | instr.Push a ↦ refl |
-      instr.Pop d ↦ refl | instr.MLoad d a ↦ refl | instr.MStore a b ↦ refl | instr.Jmp target ↦ refl |
-      instr.Jz a target ↦ refl | instr.Jnz a target ↦ refl | instr.Call target ↦ refl | instr.Ret ↦ refl |
-      instr.SLoad d a ↦ refl | instr.SStore a b ↦ refl | instr.Send a b c ↦ refl | instr.Emit a b c ↦ refl |
-      instr.Hash a b c ↦ refl | instr.VerifyMl a b c ↦ refl | instr.VerifySlh a b c ↦ refl |
-      instr.MerkleVerify a b c ↦ refl | instr.Addr a b c ↦ refl ]
+      | instr.Halt ↦ refl
+      | instr.Nop ↦ refl
+      | instr.Mov d a ↦ refl
+      | instr.Ldi d imm ↦ refl
+      | instr.Ldc d idx ↦ refl
+      | instr.Add d a b ↦ refl
+      | instr.Sub d a b ↦ refl
+      | instr.Mul d a b ↦ refl
+      | instr.Div d a b ↦ refl
+      | instr.Rem d a b ↦ refl
+      | instr.AddW d a b ↦ refl
+      | instr.SubW d a b ↦ refl
+      | instr.MulW d a b ↦ refl
+      | instr.MulHi d a b ↦ refl
+      | instr.DivW dlo dhi alo ahi blo bhi ↦ refl
+      | instr.RemW dlo dhi alo ahi blo bhi ↦ refl
+      | instr.And d a b ↦ refl
+      | instr.Or d a b ↦ refl
+      | instr.Xor d a b ↦ refl
+      | instr.Not d a ↦ refl
+      | instr.Shl d a b ↦ refl
+      | instr.Shr d a b ↦ refl
+      | instr.Eq d a b ↦ refl
+      | instr.LtU d a b ↦ refl
+      | instr.GtU d a b ↦ refl
+      | instr.Push a ↦ refl
+      | instr.Pop d ↦ refl
+      | instr.MLoad d a ↦ refl
+      | instr.MStore a b ↦ refl
+      | instr.Jmp target ↦ refl
+      | instr.Jz a target ↦ refl
+      | instr.Jnz a target ↦ refl
+      | instr.Call target ↦ refl
+      | instr.Ret ↦ refl
+      | instr.SLoad d a ↦ refl
+      | instr.SStore a b ↦ refl
+      | instr.Send a b c ↦ refl
+      | instr.Emit a b c ↦ refl
+      | instr.Hash a b c ↦ refl
+      | instr.VerifyMl a b c ↦ refl
+      | instr.VerifySlh a b c ↦ refl
+      | instr.MerkleVerify a b c ↦ refl
+      | instr.Addr a b c ↦ refl
+    ]
 
 -- n registers of a list from place k on
 abbrev pub from : (k n : ℕ) → List ℕ → List ℕ
@@ -48,14 +80,50 @@ pub taken : (o : OpCode) (r : List ℕ) (n : ℕ) → formOf (instrOf o r n) ≡
 unfolding rowOf formOf instrOf
 taken o r n =
     elim o [
-      op.Halt ↦ refl | op.Nop ↦ refl | op.Mov ↦ refl | op.Ldi ↦ refl | op.Ldc ↦ refl | op.Add ↦ refl |
-      op.Sub ↦ refl | op.Mul ↦ refl | op.Div ↦ refl | op.Rem ↦ refl | op.AddW ↦ refl | op.SubW ↦ refl |
-      op.MulW ↦ refl | op.MulHi ↦ refl | op.DivW ↦ refl | op.RemW ↦ refl | op.And ↦ refl | op.Or ↦ refl |
-      op.Xor ↦ refl | op.Not ↦ refl | op.Shl ↦ refl | op.Shr ↦ refl | op.Eq ↦ refl | op.LtU ↦ refl | op.GtU ↦ refl |
-      op.Push ↦ refl | op.Pop ↦ refl | op.MLoad ↦ refl | op.MStore ↦ refl | op.Jmp ↦ refl | op.Jz ↦ refl |
-      op.Jnz ↦ refl | op.Call ↦ refl | op.Ret ↦ refl | op.SLoad ↦ refl | op.SStore ↦ refl | op.Send ↦ refl |
-      op.Emit ↦ refl | op.Hash ↦ refl | op.VerifyMl ↦ refl | op.VerifySlh ↦ refl | op.MerkleVerify ↦ refl |
-      op.Addr ↦ refl ]
+      | op.Halt ↦ refl
+      | op.Nop ↦ refl
+      | op.Mov ↦ refl
+      | op.Ldi ↦ refl
+      | op.Ldc ↦ refl
+      | op.Add ↦ refl
+      | op.Sub ↦ refl
+      | op.Mul ↦ refl
+      | op.Div ↦ refl
+      | op.Rem ↦ refl
+      | op.AddW ↦ refl
+      | op.SubW ↦ refl
+      | op.MulW ↦ refl
+      | op.MulHi ↦ refl
+      | op.DivW ↦ refl
+      | op.RemW ↦ refl
+      | op.And ↦ refl
+      | op.Or ↦ refl
+      | op.Xor ↦ refl
+      | op.Not ↦ refl
+      | op.Shl ↦ refl
+      | op.Shr ↦ refl
+      | op.Eq ↦ refl
+      | op.LtU ↦ refl
+      | op.GtU ↦ refl
+      | op.Push ↦ refl
+      | op.Pop ↦ refl
+      | op.MLoad ↦ refl
+      | op.MStore ↦ refl
+      | op.Jmp ↦ refl
+      | op.Jz ↦ refl
+      | op.Jnz ↦ refl
+      | op.Call ↦ refl
+      | op.Ret ↦ refl
+      | op.SLoad ↦ refl
+      | op.SStore ↦ refl
+      | op.Send ↦ refl
+      | op.Emit ↦ refl
+      | op.Hash ↦ refl
+      | op.VerifyMl ↦ refl
+      | op.VerifySlh ↦ refl
+      | op.MerkleVerify ↦ refl
+      | op.Addr ↦ refl
+    ]
 
 -- two instructions of one form are one
 pub same-form : (i j : Instr) → formOf i ≡ formOf j → i ≡ j

@@ -49,6 +49,7 @@ module _ (code : List ℕ) (place : ℕ) where
     where
       s : List ℕ
       s = drop (place + 1) code
+
       by : (f : FirstBad) (t : Bool) → firstBad (take (regsOf o) (drop (place + 1) code)) ≡ f → leb (regsOf o + wideOf o) (length (drop (place + 1) code)) ≡ t → Outcome code place
       by (Bad b) t p q = refused (BadRegister b) (register h o k b p)
       by NoneBad true p q =

@@ -70,9 +70,9 @@ operands-back i ok t =
     let there : regsOf o ≤ length s = omega arith in
     let mine : regsOf o ≤ length r = omega (arith, length-regs i) in
     let value : num (take (wideOf o) (drop (regsOf o) s)) ≡ n =
-        rw (drop-at r (b ++ t) (regsOf o) (length-regs i), take-at b t (wideOf o) lb) (read-back-all (wideOf o) n (ok .number)) in
+    rw (drop-at r (b ++ t) (regsOf o) (length-regs i), take-at b t (wideOf o) lb) (read-back-all (wideOf o) n (ok .number)) in
     let same : from 0 (regsOf o) s ≡ from 0 (regsOf o) r =
-        from-take (regsOf o) s there ∙ first ∙ sym (from-take (regsOf o) r mine ∙ take-all (regsOf o) r (omega (arith, length-regs i))) in
+    from-take (regsOf o) s there ∙ first ∙ sym (from-take (regsOf o) r mine ∙ take-all (regsOf o) r (omega (arith, length-regs i))) in
     operands-stand o s (ap firstBad first ∙ below-none r (ok .regs)) room
     ∙ ap (λ (j : Instr). Done j (lengthOf o)) (ap (instrOf o s) value ∙ same-regs o s r n same ∙ rebuilt i)
 
@@ -132,10 +132,10 @@ module _ (b : ℕ) (s : List ℕ) (all : Bytes (b ∷ s)) (o : OpCode) (found : 
       let there : k ≤ length s = omega (arith, r .room) in
       let left : w ≤ length (drop k s) = rw length-drop (omega (arith, r .room)) in
       let is : formOf i ≡ form o (take k s) (pick (eqb w 0) 0 v) =
-          ap formOf (sym (r .instr)) ∙ taken o s v ∙ rw (from-take k s there) in
+      ap formOf (sym (r .instr)) ∙ taken o s v ∙ rw (from-take k s there) in
       let long : lengthOf o ≡ suc (k + w) = omega arith in
       let bytes : bytesOf i ≡ take n (b ∷ s) =
-          rw (is, no-number w v, write-back w (drop k s) left after, ← opcode-byte b o found, ← r .size, long, ← take-add k w s) in
+      rw (is, no-number w v, write-back w (drop k s) left after, ← opcode-byte b o found, ← r .size, long, ← take-add k w s) in
       record {
         in-range = record {
           regs = rw is (none-below (take k s) (r .good));

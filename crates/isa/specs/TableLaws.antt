@@ -30,14 +30,50 @@ pub known : (o : OpCode) → opAt (byteOf o) ≡ Known o
 unfolding rowOf find opAt
 known o =
     elim o [
-      op.Halt ↦ refl | op.Nop ↦ refl | op.Mov ↦ refl | op.Ldi ↦ refl | op.Ldc ↦ refl | op.Add ↦ refl |
-      op.Sub ↦ refl | op.Mul ↦ refl | op.Div ↦ refl | op.Rem ↦ refl | op.AddW ↦ refl | op.SubW ↦ refl |
-      op.MulW ↦ refl | op.MulHi ↦ refl | op.DivW ↦ refl | op.RemW ↦ refl | op.And ↦ refl | op.Or ↦ refl |
-      op.Xor ↦ refl | op.Not ↦ refl | op.Shl ↦ refl | op.Shr ↦ refl | op.Eq ↦ refl | op.LtU ↦ refl | op.GtU ↦ refl |
-      op.Push ↦ refl | op.Pop ↦ refl | op.MLoad ↦ refl | op.MStore ↦ refl | op.Jmp ↦ refl | op.Jz ↦ refl |
-      op.Jnz ↦ refl | op.Call ↦ refl | op.Ret ↦ refl | op.SLoad ↦ refl | op.SStore ↦ refl | op.Send ↦ refl |
-      op.Emit ↦ refl | op.Hash ↦ refl | op.VerifyMl ↦ refl | op.VerifySlh ↦ refl | op.MerkleVerify ↦ refl |
-      op.Addr ↦ refl ]
+      | op.Halt ↦ refl
+      | op.Nop ↦ refl
+      | op.Mov ↦ refl
+      | op.Ldi ↦ refl
+      | op.Ldc ↦ refl
+      | op.Add ↦ refl
+      | op.Sub ↦ refl
+      | op.Mul ↦ refl
+      | op.Div ↦ refl
+      | op.Rem ↦ refl
+      | op.AddW ↦ refl
+      | op.SubW ↦ refl
+      | op.MulW ↦ refl
+      | op.MulHi ↦ refl
+      | op.DivW ↦ refl
+      | op.RemW ↦ refl
+      | op.And ↦ refl
+      | op.Or ↦ refl
+      | op.Xor ↦ refl
+      | op.Not ↦ refl
+      | op.Shl ↦ refl
+      | op.Shr ↦ refl
+      | op.Eq ↦ refl
+      | op.LtU ↦ refl
+      | op.GtU ↦ refl
+      | op.Push ↦ refl
+      | op.Pop ↦ refl
+      | op.MLoad ↦ refl
+      | op.MStore ↦ refl
+      | op.Jmp ↦ refl
+      | op.Jz ↦ refl
+      | op.Jnz ↦ refl
+      | op.Call ↦ refl
+      | op.Ret ↦ refl
+      | op.SLoad ↦ refl
+      | op.SStore ↦ refl
+      | op.Send ↦ refl
+      | op.Emit ↦ refl
+      | op.Hash ↦ refl
+      | op.VerifyMl ↦ refl
+      | op.VerifySlh ↦ refl
+      | op.MerkleVerify ↦ refl
+      | op.Addr ↦ refl
+    ]
 
 -- what holds of each listed opcode
 abbrev pub All : (OpCode → Type 0) → List OpCode → Type 0

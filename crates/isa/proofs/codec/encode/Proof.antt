@@ -39,7 +39,7 @@ returns c =
     let p = r .before .before in
     let a = p .before .before .args in
     let e = encoded-bad (a .i) (now (a .out)) (p .parts-of .result) (r .row .result) (p .parts-of .ensures) (r .row .ensures)
-        (c .before .b .given .0 .0) (sym (f .first-bad .ensures) ∙ c .before .b .given .1) in
+    (c .before .b .given .0 .0) (sym (f .first-bad .ensures) ∙ c .before .b .given .1) in
     (e .answer, e .output)
 
 enum-told : tie.Need-enum-told
@@ -57,7 +57,7 @@ returns-2 c =
     let p = r .before .before in
     let a = p .before .before .args in
     let e = encoded-no-room (a .i) (now (a .out)) (p .parts-of .result) (r .row .result) (p .parts-of .ensures) (r .row .ensures)
-        (no-bad (c .before)) (c .if1 .taken) in
+    (no-bad (c .before)) (c .if1 .taken) in
     (e .answer, e .output)
 
 slice-aggregate-put : tie.Need-slice-aggregate-put
@@ -81,7 +81,7 @@ returns-3 c =
     let p = r .before .before in
     let a = p .before .before .args in
     let e = encoded-done (a .i) (now (a .out)) (p .parts-of .result) (r .row .result) (p .parts-of .ensures) (r .row .ensures)
-        (no-bad (z .before)) (z .if1 .left) _ (w .put .ensures) in
+    (no-bad (z .before)) (z .if1 .left) _ (w .put .ensures) in
     (e .answer, e .output)
 
 pub encode-spec : {M : Type 1} → statement M

@@ -1,0 +1,11 @@
+-- Numbers in a list.
+use mathlib.Core.Bool.{Bool, true, false}
+use mathlib.Core.List.{List, [], _∷_}
+use Prim.Native.Nat.{ℕ}
+use lib.Dec.{eqb}
+use Rattle.words.specs.Choice.{either}
+
+-- whether a number stands in a list
+unfoldable pub member : ℕ → List ℕ → Bool
+member k [] = false
+member k (x ∷ xs) = either (eqb x k) (member k xs)

@@ -1,0 +1,16 @@
+-- A container: code, constants and entries, each with a selector, an offset and four lists of slots (document 01, Container).
+use mathlib.Core.List.{List}
+use Prim.Native.Nat.{ℕ}
+
+pub record Entry : Type 0 where
+  pub selector : ℕ
+  pub offset : ℕ
+  pub reads : List ℕ
+  pub writes : List ℕ
+  pub keyed-reads : List ℕ
+  pub keyed-writes : List ℕ
+
+pub record Container : Type 0 where
+  pub code : List ℕ
+  pub consts : List ℕ
+  pub entries : List Entry

@@ -1,0 +1,22 @@
+// What a container must be to be run.
+use isa::codec::DecodeError;
+use super::reader::Layout;
+use super::reader::ReadError;
+
+pub enum VerifyError {
+    CodeTooLarge,
+    ConstsTooLarge,
+    EntriesTooLarge,
+    UndecodableCode(usize, DecodeError),
+    ConstIndexOutOfRange(u64),
+    MisalignedTarget(u64),
+    EntryOffsetMisaligned(u64),
+    DuplicateSelector(u64),
+    AccessListTooLarge(u64),
+}
+
+pub enum Verified {
+    Valid(Layout),
+    Unreadable(ReadError),
+    Refused(VerifyError),
+}

@@ -20,10 +20,27 @@ fn fields(i: Instr) {
     }
 }
 
+// What encode answers when the output is a byte short of n.
+fn shortened(i: Instr, out: &mut [u8], n: usize) {
+    if n == 0 {
+        return;
+    }
+    let k = n - 1;
+    if out.len() < k {
+        return;
+    }
+    if let Encoded::Refused(e) = isa::codec::encode(i, &mut out[..k]) {
+        print::text(b" short");
+        print::number(e.number());
+        print::number(e.argument());
+    }
+}
+
 fn encoded(i: Instr) {
     let mut out = [0u8; OpCode::MAX_LENGTH];
     if let Encoded::Done(n) = isa::codec::encode(i, &mut out) {
         print::bytes(&out, n, true);
+        shortened(i, &mut out, n);
     }
 }
 

@@ -1,9 +1,8 @@
 -- What encoding answers and leaves in the output, from what the code finds on its way. Assumes nothing.
-use Prim.Native.Nat.{ℕ, zero, suc, _+_, _≤_, _<_}
+use Prim.Native.Nat.{ℕ, _+_, _≤_, _<_}
 use mathlib.Core.Path.{_≡_, refl, sym, ap, _∙_}
 use mathlib.Core.List.{List, [], _∷_, _++_}
 use native.Mathlib.Omega.{arith}
-use lib.Dec.{leb}
 use lib.ListN.{length, take, drop, set, length-append, length-set}
 use lib.Seq.{paste, take-paste, drop-paste, drop-drop, drop-set-lt, take-all, length-take-le}
 use borrow.Author.Tests.{le-leb, lt-leb}

@@ -1,20 +1,19 @@
 -- Taking an instruction apart and putting it together undo one another. Assumes nothing.
-use Prim.Native.Nat.{ℕ, zero, suc, _+_, _≤_, _<_}
+use Prim.Native.Nat.{ℕ, zero, suc, _+_, _≤_}
 use mathlib.Core.Path.{_≡_, refl, sym, ap, _∙_}
-use mathlib.Core.List.{List, [], _∷_, _++_}
+use mathlib.Core.List.{List}
 use native.Mathlib.Omega.{arith}
-use native.Mathlib.Nat.{add-zero, add-suc}
 use lib.Dec.{eqb}
-use lib.ListN.{length, take, drop, getD}
+use lib.ListN.{length, take, drop}
 use lib.Seq.{drop-cons}
 use Rattle.words.specs.Choice.{pick}
 use Rattle.isa.specs.declared.opcode.OpCode.{OpCode}
-use Rattle.isa.specs.declared.opcode.OpCode.the-variants as op
 use Rattle.isa.specs.declared.instr.Instr.{Instr}
 use Rattle.isa.specs.declared.instr.Instr.the-variants as instr
-use Rattle.isa.specs.Table.{rowOf, regsOf, wideOf}
+use Rattle.isa.specs.Table.{regsOf, wideOf}
+use Rattle.isa.specs.Computed.{from, kept, computed}
 use Rattle.isa.specs.TableLaws.{small}
-use Rattle.isa.specs.Forms.{Form, form, formOf, instrOf, at, six}
+use Rattle.isa.specs.Forms.{Form, form, formOf, instrOf, six}
 
 -- an instruction is that of its form
 pub rebuilt : (i : Instr) → instrOf (formOf i .op) (formOf i .regs) (formOf i .number) ≡ i
@@ -66,64 +65,9 @@ rebuilt i =
       | instr.Addr a b c ↦ refl
     ]
 
--- n registers of a list from place k on
-abbrev pub from : (k n : ℕ) → List ℕ → List ℕ
-from k zero r = []
-from k (suc n) r = at r k ∷ from (suc k) n r
-
--- what an opcode keeps of a list of registers and a number
-abbrev pub kept : OpCode → List ℕ → ℕ → Form
-kept o r n = form o (from 0 (regsOf o) r) (pick (eqb (wideOf o) 0) 0 n)
-
 -- the form of an instruction that was put together is what its opcode keeps
 pub taken : (o : OpCode) (r : List ℕ) (n : ℕ) → formOf (instrOf o r n) ≡ kept o r n
-unfolding rowOf formOf instrOf
-taken o r n =
-    elim o [
-      | op.Halt ↦ refl
-      | op.Nop ↦ refl
-      | op.Mov ↦ refl
-      | op.Ldi ↦ refl
-      | op.Ldc ↦ refl
-      | op.Add ↦ refl
-      | op.Sub ↦ refl
-      | op.Mul ↦ refl
-      | op.Div ↦ refl
-      | op.Rem ↦ refl
-      | op.AddW ↦ refl
-      | op.SubW ↦ refl
-      | op.MulW ↦ refl
-      | op.MulHi ↦ refl
-      | op.DivW ↦ refl
-      | op.RemW ↦ refl
-      | op.And ↦ refl
-      | op.Or ↦ refl
-      | op.Xor ↦ refl
-      | op.Not ↦ refl
-      | op.Shl ↦ refl
-      | op.Shr ↦ refl
-      | op.Eq ↦ refl
-      | op.LtU ↦ refl
-      | op.GtU ↦ refl
-      | op.Push ↦ refl
-      | op.Pop ↦ refl
-      | op.MLoad ↦ refl
-      | op.MStore ↦ refl
-      | op.Jmp ↦ refl
-      | op.Jz ↦ refl
-      | op.Jnz ↦ refl
-      | op.Call ↦ refl
-      | op.Ret ↦ refl
-      | op.SLoad ↦ refl
-      | op.SStore ↦ refl
-      | op.Send ↦ refl
-      | op.Emit ↦ refl
-      | op.Hash ↦ refl
-      | op.VerifyMl ↦ refl
-      | op.VerifySlh ↦ refl
-      | op.MerkleVerify ↦ refl
-      | op.Addr ↦ refl
-    ]
+taken o = computed o .1
 
 -- two instructions of one form are one
 pub same-form : (i j : Instr) → formOf i ≡ formOf j → i ≡ j

@@ -3,6 +3,7 @@ pub mod Forms
 pub mod Codec
 pub mod Answers
 pub mod Told
+pub mod Computed
 pub mod TableLaws
 pub mod FormLaws
 pub mod DecodeLaws

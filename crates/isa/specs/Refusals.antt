@@ -1,10 +1,10 @@
 -- Decode refuses exactly where the rules refuse, and encode leaves what it refuses (document 01, Codec). Assumes nothing.
 use Prim.Native.Nat.{ℕ, _+_, _≤_, _<_}
-use mathlib.Core.Path.{_≡_, refl, sym, ap, _∙_}
+use mathlib.Core.Path.{_≡_, refl, sym, _∙_}
 use mathlib.Core.List.{List}
 use mathlib.Core.Bool.{Bool, true, false}
 use native.Mathlib.Omega.{arith}
-use lib.Dec.{ltb, leb}
+use lib.Dec.{leb}
 use lib.ListN.{length, getD, take, drop, length-drop}
 use borrow.Author.Tests.{leb-true, leb-false}
 use Rattle.isa.specs.declared.opcode.OpCode.{OpCode}
@@ -19,7 +19,7 @@ use Rattle.isa.specs.declared.codec.Encoded.the-variants as encoded
 use Rattle.isa.specs.declared.codec.FirstBad.{FirstBad}
 use Rattle.isa.specs.declared.codec.FirstBad.the-variants.{Bad, NoneBad}
 use Rattle.isa.specs.Table.{rowOf, regsOf, wideOf, lengthOf, opAt}
-use Rattle.isa.specs.Codec.{firstBad, operandsOf, decodeAt, encodedOf, outputAfter, outputOf}
+use Rattle.isa.specs.Codec.{firstBad, decodeAt, encodedOf, outputAfter, outputOf}
 use Rattle.isa.specs.DecodeLaws.{past-end, no-opcode, an-opcode, operands-bad, operands-short, operands-done}
 
 -- why decode refuses at a place: no byte, no opcode, a bad register among those that stand, or bytes that are missing
@@ -45,11 +45,8 @@ data Outcome (code : List ℕ) (place : ℕ) : Type 0 where
 
 module _ (code : List ℕ) (place : ℕ) where
   with-operands : place < length code → (o : OpCode) → opAt (getD code place 0) ≡ Known o → Outcome code place
-  with-operands h o k = by (firstBad (take (regsOf o) s)) (leb (regsOf o + wideOf o) (length s)) refl refl
+  with-operands h o k = by (firstBad (take (regsOf o) (drop (place + 1) code))) (leb (regsOf o + wideOf o) (length (drop (place + 1) code))) refl refl
     where
-      s : List ℕ
-      s = drop (place + 1) code
-
       by : (f : FirstBad) (t : Bool) → firstBad (take (regsOf o) (drop (place + 1) code)) ≡ f → leb (regsOf o + wideOf o) (length (drop (place + 1) code)) ≡ t → Outcome code place
       by (Bad b) t p q = refused (BadRegister b) (register h o k b p)
       by NoneBad true p q =

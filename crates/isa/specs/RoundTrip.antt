@@ -3,11 +3,10 @@ use Prim.Native.Nat.{ℕ, zero, suc, _+_, _^_, _≤_, _<_}
 use mathlib.Core.Path.{_≡_, refl, sym, ap, _∙_}
 use mathlib.Core.List.{List, [], _∷_, _++_, append-assoc}
 use mathlib.Core.Bool.{Bool, true, false}
-use mathlib.Core.Option.{Option, some, none}
 use native.Mathlib.Omega.{arith}
 use lib.Dec.{ltb, leb, eqb}
 use lib.ListN.{length, getD, take, drop, length-append, length-drop, take-append-drop}
-use lib.Seq.{take-at, drop-at, take-add, take-all, take-append-le, getD-take, getD-drop, length-take-le}
+use lib.Seq.{take-at, drop-at, take-add, take-all, getD-drop, length-take-le}
 use borrow.Author.Tests.{lt-ltb, le-leb, leb-true, ltb-true, ne-eqb}
 use Rattle.words.specs.Choice.{pick}
 use Rattle.words.specs.Bytes.{num, beBytes, Bytes}
@@ -17,16 +16,16 @@ use Rattle.isa.specs.declared.opcode.OpCode.{OpCode}
 use Rattle.isa.specs.declared.opcode.Op.{Op}
 use Rattle.isa.specs.declared.opcode.Op.the-variants.{Known, Unknown}
 use Rattle.isa.specs.declared.instr.Instr.{Instr}
-use Rattle.isa.specs.declared.codec.DecodeError.{DecodeError}
-use Rattle.isa.specs.declared.codec.Decoded.the-variants.{Done, Refused}
+use Rattle.isa.specs.declared.codec.Decoded.the-variants.{Done}
 use Rattle.isa.specs.declared.codec.FirstBad.{FirstBad}
 use Rattle.isa.specs.declared.codec.FirstBad.the-variants.{Bad, NoneBad}
 use Rattle.isa.specs.declared.codec.Encoded.the-variants as encoded
-use Rattle.isa.specs.Table.{rowOf, byteOf, regsOf, wideOf, lengthOf, find, opAt, opcodes}
+use Rattle.isa.specs.Table.{regsOf, wideOf, lengthOf, opAt}
 use Rattle.isa.specs.TableLaws.{known, small, opcode-byte}
 use Rattle.isa.specs.Forms.{Form, form, formOf, instrOf}
-use Rattle.isa.specs.FormLaws.{from, from-take, taken, keeps, kept, rebuilt, same-regs, length-regs}
-use Rattle.isa.specs.Codec.{firstBad, refusalIn, unless, operandsOf, afterOpcode, decodeList, decodeAt, bytesOf, encodedWith, encodedOf, outputAfter, outputOf}
+use Rattle.isa.specs.Computed.{from}
+use Rattle.isa.specs.FormLaws.{from-take, taken, rebuilt, same-regs, length-regs}
+use Rattle.isa.specs.Codec.{firstBad, unless, operandsOf, afterOpcode, decodeList, decodeAt, bytesOf, encodedWith, encodedOf, outputAfter, outputOf}
 use Rattle.isa.specs.DecodeLaws.{refusalBy, refusal-is}
 use Rattle.isa.specs.EncodeLaws.{length-bytes}
 use Rattle.isa.specs.Range.{InRange, Stands}

@@ -1,6 +1,6 @@
 -- Laws of the opcode table: every opcode is found by its byte, and what a test says of every row holds of each. Assumes nothing.
-use Prim.Native.Nat.{ℕ, _+_, _≤_}
-use mathlib.Core.Path.{_≡_, refl, sym}
+use Prim.Native.Nat.{ℕ, _≤_}
+use mathlib.Core.Path.{_≡_, refl}
 use mathlib.Core.List.{List, [], _∷_}
 use mathlib.Core.Bool.{Bool, true, false}
 use lib.Dec.{leb, eqb}
@@ -8,9 +8,8 @@ use native.Mathlib.Omega.{arith}
 use borrow.Author.Tests.{ne-eqb, leb-true, eqb-true}
 use Rattle.words.specs.Choice.{pick}
 use Rattle.isa.specs.declared.opcode.OpCode.{OpCode}
-use Rattle.isa.specs.declared.opcode.OpCode.the-variants as op
-use Rattle.isa.specs.declared.opcode.Op.{Op}
 use Rattle.isa.specs.declared.opcode.Op.the-variants.{Known, Unknown}
+use Rattle.isa.specs.Computed.{computed}
 use Rattle.isa.specs.Table.{rowOf, byteOf, regsOf, wideOf, lengthOf, find, opAt, opcodes}
 
 -- what the last arm of a match on a byte is given: that the byte is none of the listed opcodes'
@@ -27,53 +26,7 @@ none-of N (o ∷ os) b r =
 
 -- every opcode is found by its byte
 pub known : (o : OpCode) → opAt (byteOf o) ≡ Known o
-unfolding rowOf find opAt
-known o =
-    elim o [
-      | op.Halt ↦ refl
-      | op.Nop ↦ refl
-      | op.Mov ↦ refl
-      | op.Ldi ↦ refl
-      | op.Ldc ↦ refl
-      | op.Add ↦ refl
-      | op.Sub ↦ refl
-      | op.Mul ↦ refl
-      | op.Div ↦ refl
-      | op.Rem ↦ refl
-      | op.AddW ↦ refl
-      | op.SubW ↦ refl
-      | op.MulW ↦ refl
-      | op.MulHi ↦ refl
-      | op.DivW ↦ refl
-      | op.RemW ↦ refl
-      | op.And ↦ refl
-      | op.Or ↦ refl
-      | op.Xor ↦ refl
-      | op.Not ↦ refl
-      | op.Shl ↦ refl
-      | op.Shr ↦ refl
-      | op.Eq ↦ refl
-      | op.LtU ↦ refl
-      | op.GtU ↦ refl
-      | op.Push ↦ refl
-      | op.Pop ↦ refl
-      | op.MLoad ↦ refl
-      | op.MStore ↦ refl
-      | op.Jmp ↦ refl
-      | op.Jz ↦ refl
-      | op.Jnz ↦ refl
-      | op.Call ↦ refl
-      | op.Ret ↦ refl
-      | op.SLoad ↦ refl
-      | op.SStore ↦ refl
-      | op.Send ↦ refl
-      | op.Emit ↦ refl
-      | op.Hash ↦ refl
-      | op.VerifyMl ↦ refl
-      | op.VerifySlh ↦ refl
-      | op.MerkleVerify ↦ refl
-      | op.Addr ↦ refl
-    ]
+known o = computed o .0
 
 -- what holds of each listed opcode
 abbrev pub All : (OpCode → Type 0) → List OpCode → Type 0

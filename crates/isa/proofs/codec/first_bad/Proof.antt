@@ -16,29 +16,17 @@ Inv-loop s n i₀ i = firstBad (take n s) ≡ firstBad (drop i (take n s))
 abbrev μ-loop : tie.MeasureT-loop
 μ-loop s n i₀ i = n - i
 
-loop-holds : tie.Need-loop-holds Inv-loop μ-loop
-loop-holds c = refl
-
 returns : tie.Need-returns Inv-loop μ-loop
 returns c =
     let p = c .before .before in
     let a = p .before .args in
     sym (p .loop .inv ∙ bad-end (a .n) (now (a .s)) (p .loop .i) (rw length-take (omega arith)))
 
-shared-slice-read-b : tie.Need-shared-slice-read-b Inv-loop μ-loop
-shared-slice-read-b c = omega arith
-
 returns-2 : tie.Need-returns-2 Inv-loop μ-loop
 returns-2 c =
     let p = c .before .before .before .before in
     let a = p .before .args in
     sym (p .loop .inv ∙ bad-turn (a .n) (now (a .s)) (p .loop .i) (omega arith) (omega arith) ∙ rw (le-ltb (getD (now (a .s)) (p .loop .i) 0) 16 (c .if2 .taken)))
-
-add-i : tie.Need-add-i Inv-loop μ-loop
-add-i c = omega arith
-
-loop-less : tie.Need-loop-less Inv-loop μ-loop
-loop-less c = omega arith
 
 loop-again : tie.Need-loop-again Inv-loop μ-loop
 loop-again c =
@@ -57,11 +45,11 @@ first-bad-spec =
     (tie.spec
     Inv-loop
     μ-loop
-    loop-holds
+    (λ c. refl)
     returns
-    shared-slice-read-b
+    (λ c. omega arith)
     returns-2
-    add-i
-    loop-less
+    (λ c. omega arith)
+    (λ c. omega arith)
     loop-again
     returns-3)

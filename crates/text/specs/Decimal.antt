@@ -17,3 +17,7 @@ digitCount (suc l) n = pick (ltb n 10) 1 (suc (digitCount l (n / 10)))
 -- 64 bits take 20 digits at most
 unfoldable pub decimalOf : ℕ → List ℕ
 decimalOf n = lastDigits (digitCount 20 n) n
+
+-- a name, then a number
+unfoldable pub fieldOf : List ℕ → ℕ → List ℕ
+fieldOf name n = name ++ decimalOf n

@@ -1,9 +1,9 @@
-// Lines of text in lent bytes: numbers in decimal.
+// Lines of text in lent bytes: numbers in decimal, each after its name.
 ghost use mathlib.Core.Path.{_≡_};
 ghost use Prim.Native.Nat.{_+_, _≤_, _<_};
 ghost use lib.ListN.{length};
 ghost use lib.Seq.{paste};
-ghost use Rattle.text.specs.Decimal.{lastDigits, digitCount, decimalOf};
+ghost use Rattle.text.specs.Decimal.{lastDigits, digitCount, decimalOf, fieldOf};
 
 // How many decimal digits a number takes.
 fn digits(n: u64) -> usize
@@ -40,4 +40,14 @@ pub fn decimal(out: &mut [u8], at: usize, n: u64) -> usize
     let w = digits(n);
     put_digits(out, at, w, n);
     at + w
+}
+
+// A name and a number in decimal at a place, and where they end.
+pub fn field(out: &mut [u8], at: usize, name: &[u8], n: u64) -> usize
+    requires { ⌜ at + length (now name) + 20 ≤ length (now out) ⌝ }
+    ensures { λ r. ⌜ (r ≡ at + length (fieldOf (now (name .entry)) n)) × (now (out .exit) ≡ paste (now (out .entry)) at (fieldOf (now (name .entry)) n) (length (fieldOf (now (name .entry)) n))) ⌝ }
+{
+    words::bytes::copy_in(out, at, name);
+    let next = at + name.len();
+    decimal(out, next, n)
 }

@@ -1,0 +1,16 @@
+pub mod Order
+pub mod OrderLaws
+pub mod Rows
+pub mod SortedLaws
+pub mod RowsTheorems
+pub mod LayoutLaws
+pub mod SearchLaws
+pub mod MoveLaws
+pub mod Table
+pub mod StoreLaws
+pub mod MadeLaws
+pub mod TableTheorems
+pub mod Checked
+pub mod CheckLaws
+pub mod CheckTheorems
+pub mod Answers

@@ -1,0 +1,5 @@
+// Sorted rows in lent bytes, and rows of replies.
+pub mod check;
+pub mod order;
+pub mod rows;
+pub mod store;

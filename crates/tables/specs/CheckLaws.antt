@@ -1,19 +1,17 @@
--- Neighbours that rise, the test that all do, and what a check answers. Assumes nothing.
+-- Neighbours that rise, and the test that all do. Assumes nothing.
 use mathlib.Core.Path.{_≡_, refl}
 use mathlib.Core.Bool.{Bool, true, false}
 use mathlib.Core.List.{List, [], _∷_}
 use mathlib.Core.Logic.{_⊎_, inl, inr}
-use Prim.Native.Nat.{ℕ, suc, _+_, _/_, _%_, _≤_, _<_}
+use Prim.Native.Nat.{ℕ, suc, _+_, _≤_, _<_}
 use native.Mathlib.Omega.{arith}
 use native.Mathlib.Nat.{eq-or-lt-of-le}
 use lib.ListN.{length}
 use lib.Dec.{leb}
-use borrow.Author.Tests.{le-leb, leb-true, eq-eqb, ne-eqb}
-use Rattle.words.specs.Choice.{pick}
-use Rattle.tables.specs.Rows.{Row, rows, Rising}
-use Rattle.tables.specs.Checked.{risingb, checkedOf}
+use borrow.Author.Tests.{le-leb, leb-true}
+use Rattle.tables.specs.Rows.{Row, Rising}
+use Rattle.tables.specs.Checked.{risingb}
 use Rattle.tables.specs.SortedLaws.{at, rising-at}
-use Rattle.tables.specs.declared.check.Checked.the-variants.{Whole, Bad}
 
 -- each of the first i keys is below the next
 abbrev pub Adjacent : List Row → ℕ → Type 0
@@ -59,13 +57,3 @@ adjacent-all rs n i e h a = rising-true 0 rs (adjacent-rising 0 rs (λ p l. a p 
 
 pub adjacent-not : (rs : List Row) (n i j : ℕ) → length rs ≡ n → i ≡ suc j → i < n → at rs i ≤ at rs j → risingb 0 rs ≡ false
 adjacent-not rs n i j e q h k = not-rising rs (λ s. omega (arith, rising-at 0 rs j i s (omega arith) (omega arith)))
-
--- what a check answers
-module _ (w : ℕ) (t : List ℕ) where
-  pub checked-rows : length t % w ≡ 0 → (b : Bool) → b ≡ risingb 0 (rows w (length t / w) t) → pick b (Whole (length t / w)) Bad ≡ checkedOf w t
-  unfolding checkedOf
-  checked-rows h b e = rw (eq-eqb (length t % w) 0 h, e)
-
-  pub checked-part : (length t % w ≡ 0 → ⊥) → Bad ≡ checkedOf w t
-  unfolding checkedOf
-  checked-part h = rw (ne-eqb (length t % w) 0 h)

@@ -10,7 +10,13 @@ pub mod Table
 pub mod StoreLaws
 pub mod MadeLaws
 pub mod TableTheorems
+pub mod WholeLaws
 pub mod Checked
 pub mod CheckLaws
 pub mod CheckTheorems
+pub mod Reply
+pub mod ReplyLaws
+pub mod Replies
+pub mod RepliesLaws
+pub mod RepliesTheorems
 pub mod Answers

@@ -1,3 +1,4 @@
+pub mod ChoiceLaws
 pub mod Order
 pub mod OrderLaws
 pub mod Rows

@@ -1,6 +1,6 @@
 -- A fault row changes nothing, and a check of replies accepts exactly whole good rows. Assumes nothing.
 use mathlib.Core.Path.{_≡_, refl, sym, ap, _∙_}
-use mathlib.Core.Bool.{Bool, true, false}
+use mathlib.Core.Bool.{Bool, true}
 use mathlib.Core.List.{List, [], _∷_}
 use Prim.Native.Nat.{ℕ, _+_, _*_}
 use native.Mathlib.Omega.{arith}
@@ -10,19 +10,12 @@ use lib.Dec.{leb, eqb}
 use borrow.Author.Tests.{eqb-true, ne-eqb}
 use Rattle.words.specs.Bytes.{num, numFrom}
 use Rattle.words.specs.Choice.{both}
+use Rattle.tables.specs.ChoiceLaws.{both-left, both-right}
 use Rattle.tables.specs.Reply.{replyOf, zeros, goodRegister, goodRegion, goodReply}
 use Rattle.tables.specs.Replies.{goodReplies, repliesOf}
 use Rattle.tables.specs.ReplyLaws.{good-walked, afterOutcome, afterRegister, afterRegion, afterZeros}
 use Rattle.tables.specs.WholeLaws.{whole-counted, counted-whole, else-refused}
 use Rattle.tables.specs.declared.replies.Replies.the-variants.{Rows, Bad}
-
-both-left : (a b : Bool) → both a b ≡ true → a ≡ true
-both-left true b e = refl
-both-left false b e = e
-
-both-right : (a b : Bool) → both a b ≡ true → b ≡ true
-both-right true b e = e
-both-right false b e = let z : _≡_ {A = ℕ} 0 1 = cc in absurd (omega arith)
 
 -- zeroes are nothing but zeroes
 zeros-are : (xs : List ℕ) → zeros xs ≡ true → xs ≡ replicate (length xs) 0

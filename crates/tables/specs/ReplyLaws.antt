@@ -11,6 +11,7 @@ use lib.Dec.{leb, eqb}
 use borrow.Author.Tests.{leb-true, eq-eqb, ne-eqb}
 use Rattle.words.specs.Bytes.{num}
 use Rattle.words.specs.Choice.{both, either}
+use Rattle.tables.specs.ChoiceLaws.{both-assoc, both-true}
 use Rattle.tables.specs.Reply.{replyOf, zeros, goodRegister, goodRegion, goodReply}
 use Rattle.tables.specs.declared.reply.Reply.{Reply}
 
@@ -26,18 +27,10 @@ pub zeros-end : (s : List ℕ) (i : ℕ) → length s ≤ i → zeros (drop i s)
 unfolding zeros
 zeros-end s i h = rw (drop-of-length-le s h)
 
-both-assoc : (a b c : Bool) → both a (both b c) ≡ both (both a b) c
-both-assoc true b c = refl
-both-assoc false b c = refl
-
-both-true : (a : Bool) → both a true ≡ a
-both-true true = refl
-both-true false = refl
-
 zeros-append : (a b : List ℕ) → zeros (a ++ b) ≡ both (zeros a) (zeros b)
 unfolding zeros
 zeros-append [] b = refl
-zeros-append (x ∷ a) b = ap (both (eqb x 0)) (zeros-append a b) ∙ both-assoc (eqb x 0) (zeros a) (zeros b)
+zeros-append (x ∷ a) b = ap (both (eqb x 0)) (zeros-append a b) ∙ sym (both-assoc (eqb x 0) (zeros a) (zeros b))
 
 -- the bytes past the length and the last byte, in one walk
 zeros-past : (s : List ℕ) (n : ℕ) → length s ≡ 48 → n ≤ 32 → zeros (drop (n + 15) s) ≡ both (zeros (drop n (take 32 (drop 15 s)))) (eqb (getD s 47 0) 0)
@@ -79,7 +72,7 @@ past-region s n o x l = go (goodRegion n o) refl
   where
     go : (b : Bool) → goodRegion n o ≡ b
         → both b (both (zeros (drop n (take 32 (drop 15 s)))) (both (eqb (getD s 47 0) 0) x)) ≡ both b (both (zeros (drop (n + 15) s)) x)
-    go true e = both-assoc (zeros (drop n (take 32 (drop 15 s)))) (eqb (getD s 47 0) 0) x ∙ ap (λ (b : Bool). both b x) (sym (zeros-past s n l (region-length n o e)))
+    go true e = sym (both-assoc (zeros (drop n (take 32 (drop 15 s)))) (eqb (getD s 47 0) 0) x) ∙ ap (λ (b : Bool). both b x) (sym (zeros-past s n l (region-length n o e)))
     go false e = refl
 
 pub good-walked : (s : List ℕ) (r : Reply) → length s ≡ 48 → r ≡ replyOf s → goodReply s ≡ both (leb (r .outcome) 14) (afterOutcome s r)

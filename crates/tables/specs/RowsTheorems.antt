@@ -1,6 +1,6 @@
 -- Sorted rows as a map: looking up after putting in, the count, the order, and that lookups tell the rows. Assumes nothing.
 use mathlib.Core.Path.{_≡_, refl, sym, ap, _∙_}
-use mathlib.Core.Bool.{Bool, true, false, not}
+use mathlib.Core.Bool.{not}
 use mathlib.Core.List.{List, [], _∷_}
 use mathlib.Core.Option.{some, none}
 use Prim.Native.Nat.{ℕ, suc, _+_, _≤_, _<_}
@@ -55,10 +55,6 @@ rising-insert lo x (r ∷ rs) h s = go (rising-insert (suc (r .key)) x rs) (tri 
     go ih (below l e) = rw e (s .0, ih l (s .1))
     go ih (same l e) = rw e (h, rising-less _ (suc (r .key)) rs (omega arith) (s .1))
     go ih (above l e) = rw e (h, (l, s .1))
-
-pub bit-small : (b : Bool) → bit b ≤ 1
-bit-small true = omega arith
-bit-small false = omega arith
 
 -- there is one row more exactly when the key is new
 pub length-insert : (x : Row) (rs : List Row) → length (insert x rs) ≡ length rs + bit (not (isSome (lookup (x .key) rs)))

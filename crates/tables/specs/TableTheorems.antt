@@ -16,7 +16,8 @@ use Rattle.tables.specs.Rows.{Row, rowOf, rows, bytesOf, insert, lookup,
 use Rattle.tables.specs.Table.{Table, After, storedOf, Inserted}
 use Rattle.tables.specs.LayoutLaws.{rows-length}
 use Rattle.tables.specs.StoreLaws.{drop-beyond}
-use Rattle.tables.specs.RowsTheorems.{rising-insert, length-insert, bit-small}
+use Rattle.tables.specs.RowsTheorems.{rising-insert, length-insert}
+use Rattle.tables.specs.ChoiceLaws.{bit-small}
 use Rattle.tables.specs.declared.store.Stored.{Stored}
 use Rattle.tables.specs.declared.store.Stored.the-variants.{Count, NoRoom}
 

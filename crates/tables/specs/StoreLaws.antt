@@ -22,11 +22,14 @@ drop-beyond a b u t h e =
     let q : a + (b - a) ≡ b = omega arith in
     sym (ap (λ (k : ℕ). drop k u) q) ∙ sym (drop-drop (b - a) a u) ∙ ap (drop (b - a)) e ∙ drop-drop (b - a) a t ∙ ap (λ (k : ℕ). drop k t) q
 
-rows-take : (w i m : ℕ) (t : List ℕ) → take i (rows w (i + m) t) ≡ rows w i t
-rows-take w i m t = ap (take i) (rows-split w i m t) ∙ take-at (rows w i t) _ i (rows-length w i t)
-
-rows-drop : (w i m : ℕ) (t : List ℕ) → drop i (rows w (i + m) t) ≡ rows w m (drop (i * w) t)
-rows-drop w i m t = ap (drop i) (rows-split w i m t) ∙ drop-at (rows w i t) _ i (rows-length w i t)
+-- the rows before i, x, and the rows from j on
+rows-around : (w n i j : ℕ) (t : List ℕ) (x : Row) → i ≤ n → j ≤ n → take i (rows w n t) ++ x ∷ drop j (rows w n t) ≡ rows w i t ++ x ∷ rows w (n - j) (drop (j * w) t)
+rows-around w n i j t x h k =
+    let a : n ≡ i + (n - i) = omega arith in
+    let b : n ≡ j + (n - j) = omega arith in
+    let front : take i (rows w n t) ≡ rows w i t = ap (λ (m : ℕ). take i (rows w m t)) a ∙ ap (take i) (rows-split w i (n - i) t) ∙ take-at (rows w i t) _ i (rows-length w i t) in
+    let back : drop j (rows w n t) ≡ rows w (n - j) (drop (j * w) t) = ap (λ (m : ℕ). drop j (rows w m t)) b ∙ ap (drop j) (rows-split w j (n - j) t) ∙ drop-at (rows w j t) _ j (rows-length w j t) in
+    λ k. front k ++ x ∷ back k
 
 -- rows are those of the bytes that they fill
 rows-cut : (w n k : ℕ) (t : List ℕ) → 32 ≤ w → n * w ≤ k → k ≤ length t → rows w n (take k t) ≡ rows w n t
@@ -67,65 +70,76 @@ rows-moved w m at k t s h e l g =
     ap (rows w m) (drop-paste-at at k t s l) ∙ rows-front w m (take k s) (drop (at + k) t) h (omega (arith, length-take-le k s g)) ∙ rows-cut w m k s h (omega arith) g
 
 module _ (w n i : ℕ) (t row : List ℕ) (tb : Table w n t) (lw : length row ≡ w) where
-  pub put-at : find (rowOf w row .key) (rows w n t) ≡ At i → (u : List ℕ) → u ≡ paste t (i * w) row w → Inserted w n (rowOf w row) t u (Count n)
+  abbrev x : Row
+  x = rowOf w row
+
+  abbrev rs : List Row
+  rs = rows w n t
+
+  -- a row put over the one that has its key
+  pub put-at : find (x .key) rs ≡ At i → (u : List ℕ) → u ≡ paste t (i * w) row w → Inserted w n x t u (Count n)
   unfolding storedOf isSome
   put-at h u p =
-      let (l, v, e) = insert-at (rowOf w row) (rows w n t) i (rowOf w row) h in
-      let ln : length (rows w n t) ≡ n = rows-length w n t in
+      let (l, v, e) = insert-at x rs i x h in
+      let c : length rs ≡ n = rows-length w n t in
       let m : ℕ = n - suc i in
       let nm : n ≡ i + suc m = omega arith in
-      let nm2 : n ≡ suc i + m = omega arith in
       let fit : i * w + w ≤ n * w = row-ends w n i (omega arith) in
-      let li : length (insert (rowOf w row) (rows w n t)) ≡ n = length-insert (rowOf w row) (rows w n t) ∙ rw v (omega arith) in
-      let big : i * w + w ≤ length t = omega (arith, tb .fits) in
-      let sw : suc i * w ≡ i * w + w = suc-mul i w in
-      let r : rows w n u ≡ insert (rowOf w row) (rows w n t) =
-      ap (rows w n) p ∙ ap (λ (k : ℕ). rows w k (paste t (i * w) row w)) nm ∙ row-pasted w i m t row (tb .wide) lw big
-      ∙ sym (ap (λ (k : ℕ). take i (rows w k t) ++ rowOf w row ∷ drop (suc i) (rows w n t)) nm ∙ ap (λ (q : List Row). q ++ rowOf w row ∷ drop (suc i) (rows w n t)) (rows-take w i (suc m) t)
-      ∙ ap (λ (k : ℕ). rows w i t ++ rowOf w row ∷ drop (suc i) (rows w k t)) nm2 ∙ ap (λ (q : List Row). rows w i t ++ rowOf w row ∷ q) (rows-drop w (suc i) m t ∙ ap (λ (k : ℕ). rows w m (drop k t)) sw))
-      ∙ sym e in
+      let size : length (insert x rs) ≡ n = length-insert x rs ∙ rw v (omega arith) in
+      let r : rows w n u ≡ insert x rs =
+      (λ k. rows w (nm k) (p k)) ∙ row-pasted w i m t row (tb .wide) lw (omega (arith, tb .fits))
+      ∙ (λ k. rows w i t ++ x ∷ rows w m (drop (sym (suc-mul i w) k) t)) ∙ sym (rows-around w n i (suc i) t x (omega arith) (omega arith)) ∙ sym e in
       let d : drop (n * w) u ≡ drop (n * w) t =
-      ap (drop (n * w)) p ∙ drop-beyond (i * w + w) (n * w) (paste t (i * w) row w) t fit (drop-paste t (i * w) row w (omega arith) (omega arith)) in
-      record { answer = rw (li, le-leb (n * w) (length t) (tb .fits)); bytes = (r, d) }
+      ap (drop (n * w)) p ∙ drop-beyond (i * w + w) (n * w) (paste t (i * w) row w) t fit (drop-paste t (i * w) row w (omega (arith, tb .fits)) (omega arith)) in
+      record { answer = rw (size, le-leb (n * w) (length t) (tb .fits)); bytes = (r, d) }
 
-  pub put-none : find (rowOf w row .key) (rows w n t) ≡ Missing i → length t - n * w < w → Inserted w n (rowOf w row) t t NoRoom
-  unfolding storedOf isSome
-  put-none h s =
-      let (l, v, e) = insert-missing (rowOf w row) (rows w n t) i h in
-      let ln : length (rows w n t) ≡ n = rows-length w n t in
-      let li : length (insert (rowOf w row) (rows w n t)) ≡ suc n = length-insert (rowOf w row) (rows w n t) ∙ rw v (omega arith) in
-      let q : length t < suc n * w = omega (arith, suc-mul n w, tb .fits) in
-      record { answer = rw (li, lt-leb (suc n * w) (length t) q); bytes = refl }
+  -- a row with a new key
+  module _ (h : find (x .key) rs ≡ Missing i) where
+    place : i ≤ n
+    place = omega (arith, insert-missing x rs i h .0, rows-length w n t)
 
-  pub put-new : find (rowOf w row .key) (rows w n t) ≡ Missing i → n * w + w ≤ length t
-      → (v u : List ℕ) → v ≡ paste t (i * w + w) (drop (i * w) t) (n * w - i * w) → u ≡ paste v (i * w) row w → Inserted w n (rowOf w row) t u (Count (n + 1))
-  unfolding storedOf isSome
-  put-new h s v u p q =
-      let x : Row = rowOf w row in
-      let rs : List Row = rows w n t in
-      let (l, gone, e) = insert-missing x rs i h in
-      let ln : length rs ≡ n = rows-length w n t in
-      let m : ℕ = n - i in
-      let at : ℕ = i * w + w in
-      let k : ℕ = n * w - i * w in
-      let nm : n ≡ i + m = omega arith in
-      let nm1 : n + 1 ≡ i + suc m = omega arith in
-      let mw : n * w ≡ i * w + m * w = ap (λ (j : ℕ). j * w) nm ∙ add-mul i m w in
-      let nw : (n + 1) * w ≡ n * w + w = ap (λ (j : ℕ). j * w) (add-one n) ∙ suc-mul n w in
-      let li : length (insert x rs) ≡ n + 1 = length-insert x rs ∙ rw gone (omega arith) in
-      let S : List ℕ = drop (i * w) t in
-      let ls : length S ≡ length t - i * w = length-drop (i * w) t in
-      let lv : length v ≡ length t = ap length p ∙ length-paste t at S k (omega arith) (omega arith) in
-      let a : rows w i v ≡ rows w i t = ap (rows w i) p ∙ rows-below w i at k t S (tb .wide) (omega arith) (omega arith) (omega arith) in
-      let b : rows w m (drop at v) ≡ rows w m S = ap (λ (z : List ℕ). rows w m (drop at z)) p ∙ rows-moved w m at k t S (tb .wide) (omega arith) (omega arith) (omega arith) in
-      let r : rows w (n + 1) u ≡ insert x rs =
-      ap (rows w (n + 1)) q ∙ ap (λ (j : ℕ). rows w j (paste v (i * w) row w)) nm1 ∙ row-pasted w i m v row (tb .wide) lw (omega arith)
-      ∙ ap (λ (z : List Row). z ++ x ∷ rows w m (drop at v)) a ∙ ap (λ (z : List Row). rows w i t ++ x ∷ z) b
-      ∙ sym (ap (λ (j : ℕ). take i (rows w j t) ++ x ∷ drop i rs) nm ∙ ap (λ (z : List Row). z ++ x ∷ drop i rs) (rows-take w i m t)
-      ∙ ap (λ (j : ℕ). rows w i t ++ x ∷ drop i (rows w j t)) nm ∙ ap (λ (z : List Row). rows w i t ++ x ∷ z) (rows-drop w i m t))
-      ∙ sym e in
-      let kk : at + k ≡ (n + 1) * w = omega arith in
-      let d1 : drop ((n + 1) * w) v ≡ drop ((n + 1) * w) t = ap (drop ((n + 1) * w)) p ∙ rw (← kk) (drop-paste t at S k (omega arith) (omega arith)) in
-      let d : drop ((n + 1) * w) u ≡ drop ((n + 1) * w) t =
-      ap (drop ((n + 1) * w)) q ∙ drop-beyond at ((n + 1) * w) (paste v (i * w) row w) v (omega arith) (drop-paste v (i * w) row w (omega arith) (omega arith)) ∙ d1 in
-      record { answer = rw (li, le-leb ((n + 1) * w) (length t) (omega arith)); bytes = (r, d) }
+    size : length (insert x rs) ≡ n + 1
+    unfolding isSome
+    size = length-insert x rs ∙ rw (insert-missing x rs i h .1) (omega (arith, rows-length w n t))
+
+    next : (n + 1) * w ≡ n * w + w
+    next = ap (λ (j : ℕ). j * w) (add-one n) ∙ suc-mul n w
+
+    pub put-none : length t - n * w < w → Inserted w n x t t NoRoom
+    unfolding storedOf
+    put-none s = record { answer = rw (size, lt-leb ((n + 1) * w) (length t) (omega (arith, next, tb .fits))); bytes = refl }
+
+    -- the rows from i on move up a row, and the new one goes before them
+    module _ (s : n * w + w ≤ length t) (v u : List ℕ) (p : v ≡ paste t (i * w + w) (drop (i * w) t) (n * w - i * w)) (q : u ≡ paste v (i * w) row w) where
+      whole : n * w ≡ i * w + (n - i) * w
+      whole = let e : n ≡ i + (n - i) = omega (arith, place) in ap (λ (j : ℕ). j * w) e ∙ add-mul i (n - i) w
+
+      left : length (drop (i * w) t) ≡ length t - i * w
+      left = length-drop (i * w) t
+
+      same-length : length v ≡ length t
+      same-length = ap length p ∙ length-paste t (i * w + w) (drop (i * w) t) (n * w - i * w) (omega (arith, whole)) (omega (arith, whole, left))
+
+      new-rows : rows w (n + 1) u ≡ insert x rs
+      new-rows =
+          let at : ℕ = i * w + w in
+          let k : ℕ = n * w - i * w in
+          let o : List ℕ = drop (i * w) t in
+          let m : n + 1 ≡ i + suc (n - i) = omega (arith, place) in
+          let a : rows w i v ≡ rows w i t = ap (rows w i) p ∙ rows-below w i at k t o (tb .wide) (omega arith) (omega (arith, whole)) (omega (arith, whole, left)) in
+          let b : rows w (n - i) (drop at v) ≡ rows w (n - i) o = ap (λ (z : List ℕ). rows w (n - i) (drop at z)) p ∙ rows-moved w (n - i) at k t o (tb .wide) (omega (arith, whole)) (omega (arith, whole)) (omega (arith, whole, left)) in
+          (λ j. rows w (m j) (q j)) ∙ row-pasted w i (n - i) v row (tb .wide) lw (omega (arith, whole, same-length))
+          ∙ (λ j. a j ++ x ∷ b j) ∙ sym (rows-around w n i i t x place place) ∙ sym (insert-missing x rs i h .2)
+
+      new-rest : drop ((n + 1) * w) u ≡ drop ((n + 1) * w) t
+      new-rest =
+          let at : ℕ = i * w + w in
+          let k : ℕ = n * w - i * w in
+          let e : at + k ≡ (n + 1) * w = omega (arith, whole, next) in
+          ap (drop ((n + 1) * w)) q
+          ∙ drop-beyond at ((n + 1) * w) (paste v (i * w) row w) v (omega (arith, e)) (drop-paste v (i * w) row w (omega (arith, whole, same-length)) (omega arith))
+          ∙ ap (drop ((n + 1) * w)) p ∙ rw (← e) (drop-paste t at (drop (i * w) t) k (omega (arith, whole)) (omega (arith, whole, left)))
+
+      pub put-new : Inserted w n x t u (Count (n + 1))
+      unfolding storedOf
+      put-new = record { answer = rw (size, le-leb ((n + 1) * w) (length t) (omega (arith, next))); bytes = (new-rows, new-rest) }

@@ -1,0 +1,14 @@
+pub mod Log
+pub mod LogLaws
+pub mod ReadBack
+pub mod Appended
+pub mod AppendLaws
+pub mod LogTheorems
+pub mod Targets
+pub mod TargetTheorems
+pub mod Counts
+pub mod Trailers
+pub mod TrailerLaws
+pub mod WalkLaws
+pub mod TargetLaws
+pub mod CountLaws

@@ -25,8 +25,8 @@ abbrev pub loadOf : List ℕ → ℕ → Load
 loadOf mem offset = pick (inside (length mem) offset 8) (Word (num (take 8 (drop offset mem)))) BadMemory
 
 -- memory after a word is stored, and after bytes are written, at a place; the same where they do not lie inside
-abbrev pub storedAt : List ℕ → (offset v : ℕ) → List ℕ
+unfoldable pub storedAt : List ℕ → (offset v : ℕ) → List ℕ
 storedAt mem offset v = pick (inside (length mem) offset 8) (paste mem offset (beBytes 8 v) 8) mem
 
-abbrev pub writtenAt : List ℕ → ℕ → List ℕ → List ℕ
+unfoldable pub writtenAt : List ℕ → ℕ → List ℕ → List ℕ
 writtenAt mem offset bytes = pick (inside (length mem) offset (length bytes)) (paste mem offset bytes (length bytes)) mem

@@ -7,12 +7,12 @@ use native.Mathlib.Omega.{arith}
 use lib.ListN.{length, take, drop}
 use lib.Seq.{paste}
 use borrow.Author.Tests.{le-leb, lt-leb, leb-true}
-use Rattle.words.specs.Bytes.{num}
+use Rattle.words.specs.Bytes.{num, beBytes}
 use Rattle.words.specs.Choice.{pick}
 use Rattle.state.specs.declared.memory.Region.{Region}
 use Rattle.state.specs.declared.memory.Region.the-variants.{Part, Outside}
 use Rattle.state.specs.declared.memory.Load.the-variants.{Word, BadMemory}
-use Rattle.state.specs.Memory.{inside, regionOf, loadOf}
+use Rattle.state.specs.Memory.{inside, regionOf, loadOf, storedAt, writtenAt}
 
 pub region-part : (size offset len : ℕ) → offset + len ≤ size → Part offset (offset + len) ≡ regionOf size offset len
 region-part size offset len h = rw (le-leb (offset + len) size h)
@@ -53,14 +53,34 @@ load-word mem offset start end n r e k h =
 pub load-bad : (mem : List ℕ) (offset : ℕ) (r : Region) → r ≡ regionOf (length mem) offset 8 → r ≡ Outside → BadMemory ≡ loadOf mem offset
 load-bad mem offset r e k = rw (missed (length mem) offset 8 r e k)
 
--- a store's two ends
-abbrev pub Stored : Bool → (mem out new : List ℕ) (offset len : ℕ) → Type 0
-Stored b mem out new offset len = (b ≡ inside (length mem) offset len) × (out ≡ pick (inside (length mem) offset len) (paste mem offset new len) mem)
-
-pub store-inside : (mem out new : List ℕ) (offset len start end : ℕ) (r : Region) → r ≡ regionOf (length mem) offset len → r ≡ Part start end → out ≡ paste mem start new len → Stored true mem out new offset len
-store-inside mem out new offset len start end r e k h =
+-- the two ends of what puts bytes
+put-inside : (mem out new : List ℕ) (offset len start end : ℕ) (r : Region) → r ≡ regionOf (length mem) offset len → r ≡ Part start end → out ≡ paste mem start new len
+    → (true ≡ inside (length mem) offset len) × (out ≡ pick (inside (length mem) offset len) (paste mem offset new len) mem)
+put-inside mem out new offset len start end r e k h =
     let f = found (length mem) offset len start end r e k in
     rw (f .within) (refl, h ∙ ap (λ (i : ℕ). paste mem i new len) (f .begin))
 
-pub store-outside : (mem new : List ℕ) (offset len : ℕ) (r : Region) → r ≡ regionOf (length mem) offset len → r ≡ Outside → Stored false mem mem new offset len
-store-outside mem new offset len r e k = rw (missed (length mem) offset len r e k) (refl, refl)
+put-outside : (mem new : List ℕ) (offset len : ℕ) (r : Region) → r ≡ regionOf (length mem) offset len → r ≡ Outside
+    → (false ≡ inside (length mem) offset len) × (mem ≡ pick (inside (length mem) offset len) (paste mem offset new len) mem)
+put-outside mem new offset len r e k = rw (missed (length mem) offset len r e k) (refl, refl)
+
+-- of a store
+pub store-inside : (mem out : List ℕ) (offset v start end : ℕ) (r : Region) → r ≡ regionOf (length mem) offset 8 → r ≡ Part start end → out ≡ paste mem start (beBytes 8 v) 8
+    → (true ≡ inside (length mem) offset 8) × (out ≡ storedAt mem offset v)
+unfolding storedAt
+store-inside mem out offset v = put-inside mem out (beBytes 8 v) offset 8
+
+pub store-outside : (mem : List ℕ) (offset v : ℕ) (r : Region) → r ≡ regionOf (length mem) offset 8 → r ≡ Outside → (false ≡ inside (length mem) offset 8) × (mem ≡ storedAt mem offset v)
+unfolding storedAt
+store-outside mem offset v = put-outside mem (beBytes 8 v) offset 8
+
+-- of a write
+pub write-inside : (mem out bytes : List ℕ) (offset start end : ℕ) (r : Region) → r ≡ regionOf (length mem) offset (length bytes) → r ≡ Part start end → out ≡ paste mem start bytes (length bytes)
+    → (true ≡ inside (length mem) offset (length bytes)) × (out ≡ writtenAt mem offset bytes)
+unfolding writtenAt
+write-inside mem out bytes offset = put-inside mem out bytes offset (length bytes)
+
+pub write-outside : (mem bytes : List ℕ) (offset : ℕ) (r : Region) → r ≡ regionOf (length mem) offset (length bytes) → r ≡ Outside
+    → (false ≡ inside (length mem) offset (length bytes)) × (mem ≡ writtenAt mem offset bytes)
+unfolding writtenAt
+write-outside mem bytes offset = put-outside mem bytes offset (length bytes)

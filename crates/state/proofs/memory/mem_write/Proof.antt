@@ -1,7 +1,6 @@
 -- `mem_write` meets its contract: the region decides. Assumes nothing.
-use lib.ListN.{length}
 use borrow.Author.Needs.{needs}
-use Rattle.state.specs.MemoryLaws.{part-within, store-inside, store-outside}
+use Rattle.state.specs.MemoryLaws.{part-within, write-inside, write-outside}
 use Rattle.state.proofs.memory.mem_write.Statement.{statement}
 use Rattle.state.proofs.memory.mem_write.Tie as tie
 
@@ -23,18 +22,13 @@ same-length c = search needs
 returns : tie.Need-returns
 returns c =
     let p = c .before .before .before .before .before in
-    let q = p .before .before in
-    let a = q .before .before .before .before .args in
-    store-inside (a .mem .now) _ (a .bytes .now) (a .offset) (length (a .bytes .now)) _ _ _ (q .mem-region .ensures) (p .region .given .1) (c .before .before .copy-in .ensures)
+    write-inside _ _ _ _ _ _ _ (p .before .before .mem-region .ensures) (p .region .given .1) (c .before .before .copy-in .ensures)
 
 same-length-2 : tie.Need-same-length-2
 same-length-2 c = search needs
 
 returns-2 : tie.Need-returns-2
-returns-2 c =
-    let q = c .before .before in
-    let a = q .before .before .before .before .args in
-    store-outside (a .mem .now) (a .bytes .now) (a .offset) (length (a .bytes .now)) _ (q .mem-region .ensures) (c .enum-told .given .1)
+returns-2 c = write-outside _ _ _ _ (c .before .before .mem-region .ensures) (c .enum-told .given .1)
 
 pub mem-write-spec : {M : Type 1} → statement M
 mem-write-spec =

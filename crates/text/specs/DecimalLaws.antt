@@ -12,7 +12,7 @@ use lib.Seq.{paste, paste-zero}
 use borrow.Author.Tests.{lt-ltb, le-ltb}
 use Rattle.words.specs.Choice.{pick}
 use Rattle.words.specs.BytesLaws.{last-first}
-use Rattle.text.specs.Decimal.{lastDigits, digitCount, decimalOf}
+use Rattle.text.specs.Decimal.{lastDigits, digitCount}
 
 pub length-digits : (w n : ℕ) → length (lastDigits w n) ≡ w
 unfolding lastDigits
@@ -71,11 +71,3 @@ counted-turn n x k h c = by (c .left) (c .sum) (c .is) (c .small)
 
 pub counted-end : (n x k : ℕ) → x < 10 → Counted n x k → k ≡ digitCount 20 n
 counted-end n x k h c = omega (arith, c .is, count-end (c .left) x h)
-
--- the number's own count of digits makes its decimal
-pub decimal-is : (d u : List ℕ) (at w n : ℕ) → w ≡ digitCount 20 n → u ≡ paste d at (lastDigits w n) w →
-    (at + w ≡ at + length (decimalOf n)) × (u ≡ paste d at (decimalOf n) (length (decimalOf n)))
-unfolding decimalOf
-decimal-is d u at w n e p =
-    let l : w ≡ length (decimalOf n) = sym (length-digits (digitCount 20 n) n ∙ sym e) in
-    (ap (λ (k : ℕ). at + k) l, p ∙ (λ t. paste d at (lastDigits (e t) n) (l t)))

@@ -1,3 +1,4 @@
 pub mod Decimal
+pub mod Laid
 pub mod DecimalLaws
-pub mod FieldLaws
+pub mod LaidLaws

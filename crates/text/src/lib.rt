@@ -4,6 +4,7 @@ ghost use Prim.Native.Nat.{_+_, _≤_, _<_};
 ghost use lib.ListN.{length};
 ghost use lib.Seq.{paste};
 ghost use Rattle.text.specs.Decimal.{lastDigits, digitCount, decimalOf, fieldOf};
+ghost use Rattle.text.specs.Laid.{Laid};
 
 // How many decimal digits a number takes.
 fn digits(n: u64) -> usize
@@ -32,10 +33,19 @@ fn put_digits(out: &mut [u8], at: usize, w: usize, n: u64)
     }
 }
 
+// Bytes at a place, and where they end.
+pub fn put(out: &mut [u8], at: usize, s: &[u8]) -> usize
+    requires { ⌜ at + length (now s) ≤ length (now out) ⌝ }
+    ensures { λ r. ⌜ Laid (now (out .entry)) at (now (s .entry)) (now (out .exit)) r ⌝ }
+{
+    words::bytes::copy_in(out, at, s);
+    at + s.len()
+}
+
 // A number in decimal at a place, and where it ends.
 pub fn decimal(out: &mut [u8], at: usize, n: u64) -> usize
     requires { ⌜ at + 20 ≤ length (now out) ⌝ }
-    ensures { λ r. ⌜ (r ≡ at + length (decimalOf n)) × (now (out .exit) ≡ paste (now (out .entry)) at (decimalOf n) (length (decimalOf n))) ⌝ }
+    ensures { λ r. ⌜ Laid (now (out .entry)) at (decimalOf n) (now (out .exit)) r ⌝ }
 {
     let w = digits(n);
     put_digits(out, at, w, n);
@@ -45,9 +55,8 @@ pub fn decimal(out: &mut [u8], at: usize, n: u64) -> usize
 // A name and a number in decimal at a place, and where they end.
 pub fn field(out: &mut [u8], at: usize, name: &[u8], n: u64) -> usize
     requires { ⌜ at + length (now name) + 20 ≤ length (now out) ⌝ }
-    ensures { λ r. ⌜ (r ≡ at + length (fieldOf (now (name .entry)) n)) × (now (out .exit) ≡ paste (now (out .entry)) at (fieldOf (now (name .entry)) n) (length (fieldOf (now (name .entry)) n))) ⌝ }
+    ensures { λ r. ⌜ Laid (now (out .entry)) at (fieldOf (now (name .entry)) n) (now (out .exit)) r ⌝ }
 {
-    words::bytes::copy_in(out, at, name);
-    let next = at + name.len();
+    let next = put(out, at, name);
     decimal(out, next, n)
 }

@@ -2,7 +2,8 @@
 use native.Mathlib.Omega.{arith}
 use denote.Ref.{now}
 use borrow.Author.Needs.{needs}
-use Rattle.text.specs.DecimalLaws.{count-most, decimal-is}
+use Rattle.text.specs.DecimalLaws.{count-most}
+use Rattle.text.specs.LaidLaws.{laid-digits}
 use Rattle.text.proofs.decimal.Statement.{statement}
 use Rattle.text.proofs.decimal.Tie as tie
 
@@ -18,7 +19,7 @@ returns : tie.Need-returns
 returns c =
     let d = c .before .before .before .before in
     let a = d .before .before .args in
-    decimal-is (now (a .out)) _ (a .at) (d .digits .result) (a .n) (d .digits .ensures) (c .before .before .put-digits .ensures)
+    laid-digits (now (a .out)) _ (a .at) (d .digits .result) (a .n) (d .digits .ensures) (c .before .before .put-digits .ensures)
 
 pub decimal-spec : {M : Type 1} → statement M
 decimal-spec = tie.close (tie.spec (λ c κs. search needs) put-digits-requires add-result (λ c. search needs) returns)

@@ -1,6 +1,9 @@
 pub mod Container
 pub mod Canonical
 pub mod Reader
+pub mod Entries
+pub mod ParseLaws
+pub mod EntryLaws
 pub mod Starts
 pub mod Verify
 pub mod Offsets

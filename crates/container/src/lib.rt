@@ -1,4 +1,5 @@
 // Containers: reading, writing and checking them.
+pub mod entries;
 pub mod offsets;
 pub mod reader;
 pub mod starts;

@@ -1,5 +1,5 @@
 -- Where a counted list and an entry stand, counted from a place (document 01, Container).
-use mathlib.Core.List.{List}
+use mathlib.Core.List.{List, [], _∷_}
 use Prim.Native.Nat.{ℕ, _+_, _*_}
 use lib.ListN.{length}
 use Rattle.container.specs.Container.{Entry}
@@ -10,6 +10,8 @@ use Rattle.container.specs.declared.entries.CountedRead.the-variants as 
 use Rattle.container.specs.declared.entries.EntryLayout.{EntryLayout}
 use Rattle.container.specs.declared.entries.EntryRead.{EntryRead}
 use Rattle.container.specs.declared.entries.EntryRead.the-variants as entry
+use Rattle.container.specs.declared.entries.End.{End}
+use Rattle.container.specs.declared.entries.End.the-variants as end
 
 abbrev pub slots : (first count : ℕ) → Slots
 slots first count = record { at = first; count = count }
@@ -42,3 +44,12 @@ placed at e =
 unfoldable pub entryAt : ℕ → Parsed Entry → EntryRead
 entryAt at short = entry.Short
 entryAt at (read e t) = entry.Done (placed at e)
+
+-- the place after entries that stand from a place on
+unfoldable pub ends : ℕ → List Entry → ℕ
+ends at [] = at
+ends at (e ∷ es) = ends (placed at e .end) es
+
+unfoldable pub endOf : ℕ → Parsed (List Entry) → End
+endOf at short = end.Short
+endOf at (read es t) = end.At (ends at es)

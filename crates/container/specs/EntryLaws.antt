@@ -73,7 +73,7 @@ module _ (s : List ℕ) (at : ℕ) (l : Slots) (end : ℕ) (h : Done l end ≡ l
       by false q = let d = list-none s at (leb-false 4 (length s - at) q) in absurd (let z : _≡_ {A = ℕ} 0 1 = cc in omega arith)
 
 -- an entry's lists, after its numbers
-abbrev lists : (selector offset : ℕ) → List ℕ → Parsed Entry
+abbrev pub lists : (selector offset : ℕ) → List ℕ → Parsed Entry
 lists sel off s =
     andThen (counted s) (λ r s3. andThen (counted s3) (λ w s4. andThen (counted s4) (λ kr s5. andThen (counted s5) (λ kw s6.
     read (record { selector = sel; offset = off; reads = r; writes = w; keyed-reads = kr; keyed-writes = kw }) s6))))
@@ -88,7 +88,7 @@ module _ (s : List ℕ) (at : ℕ) where
       by false q = rw (number-short s at 4 (leb-false 4 (length s - at) q))
 
 module _ (s : List ℕ) (at : ℕ) (h : at + 8 ≤ length s) where
-  head : entry (drop at s) ≡ lists (num (take 4 (drop at s))) (num (take 4 (drop (at + 4) s))) (drop (at + 8) s)
+  pub head : entry (drop at s) ≡ lists (num (take 4 (drop at s))) (num (take 4 (drop (at + 4) s))) (drop (at + 8) s)
   unfolding entry
   head =
       let e : at + 4 + 4 ≡ at + 8 = omega arith in

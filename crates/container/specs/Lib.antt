@@ -4,6 +4,9 @@ pub mod Reader
 pub mod Entries
 pub mod ParseLaws
 pub mod EntryLaws
+pub mod EntryTold
+pub mod EntriesLaws
+pub mod ReaderLaws
 pub mod Starts
 pub mod Verify
 pub mod Offsets

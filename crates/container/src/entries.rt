@@ -2,8 +2,8 @@
 ghost use mathlib.Core.Path.{_≡_};
 ghost use Prim.Native.Nat.{_-_};
 ghost use lib.ListN.{length, drop};
-ghost use Rattle.container.specs.Reader.{counted, entry};
-ghost use Rattle.container.specs.Entries.{listAt, entryAt};
+ghost use Rattle.container.specs.Reader.{counted, entry, entries};
+ghost use Rattle.container.specs.Entries.{listAt, entryAt, endOf};
 
 // Where a list's first word stands, and how many words it has.
 pub struct Slots {
@@ -33,6 +33,12 @@ pub enum EntryRead {
     Short,
 }
 
+// The place after entries.
+pub enum End {
+    At(usize),
+    Short,
+}
+
 // How many bytes stand from a place on.
 pub fn left(s: &[u8], at: usize) -> usize
     ensures { λ r. ⌜ r ≡ length (now (s .entry)) - at ⌝ }
@@ -52,7 +58,13 @@ pub fn counted_at(s: &[u8], at: usize) -> CountedRead
     if (s.len() - first) / 8 < count {
         return CountedRead::Short;
     }
-    CountedRead::Done(Slots { at: first, count: count }, first + count * 8)
+    CountedRead::Done(
+        Slots {
+            at: first,
+            count: count,
+        },
+        first + count * 8,
+    )
 }
 
 // The entry at a place.
@@ -76,5 +88,29 @@ pub fn entry_at(s: &[u8], at: usize) -> EntryRead
     let CountedRead::Done(keyed_writes, end) = counted_at(s, kw) else {
         return EntryRead::Short;
     };
-    EntryRead::Done(EntryLayout { selector, offset, reads, writes, keyed_reads, keyed_writes, end })
+    EntryRead::Done(EntryLayout {
+        selector,
+        offset,
+        reads,
+        writes,
+        keyed_reads,
+        keyed_writes,
+        end,
+    })
+}
+
+// The place after n entries that stand from a place on.
+pub fn entries_end(s: &[u8], first: usize, n: usize) -> End
+    ensures { λ r. ⌜ r ≡ endOf first (entries n (drop first (now (s .entry)))) ⌝ }
+{
+    let mut at = first;
+    let mut more = n;
+    while 0 < more {
+        let EntryRead::Done(e) = entry_at(s, at) else {
+            return End::Short;
+        };
+        at = e.end;
+        more -= 1;
+    }
+    End::At(at)
 }

@@ -1,7 +1,7 @@
 // What a container must be to be run.
-use isa::codec::DecodeError;
 use super::reader::Layout;
 use super::reader::ReadError;
+use isa::codec::DecodeError;
 
 pub enum VerifyError {
     CodeTooLarge,

@@ -1,7 +1,9 @@
 -- Where a counted list and an entry stand, counted from a place (document 01, Container).
 use mathlib.Core.List.{List, [], _∷_}
 use Prim.Native.Nat.{ℕ, _+_, _*_}
+use lib.Dec.{eqb}
 use lib.ListN.{length}
+use Rattle.words.specs.Choice.{pick}
 use Rattle.container.specs.Container.{Entry}
 use Rattle.container.specs.Reader.{Parsed, short, read}
 use Rattle.container.specs.declared.entries.Slots.{Slots}
@@ -12,6 +14,8 @@ use Rattle.container.specs.declared.entries.EntryRead.{EntryRead}
 use Rattle.container.specs.declared.entries.EntryRead.the-variants as entry
 use Rattle.container.specs.declared.entries.End.{End}
 use Rattle.container.specs.declared.entries.End.the-variants as end
+use Rattle.container.specs.declared.offsets.Found.{Found}
+use Rattle.container.specs.declared.offsets.Found.the-variants as found
 
 abbrev pub slots : (first count : ℕ) → Slots
 slots first count = record { at = first; count = count }
@@ -53,3 +57,8 @@ ends at (e ∷ es) = ends (placed at e .end) es
 unfoldable pub endOf : ℕ → Parsed (List Entry) → End
 endOf at short = end.Short
 endOf at (read es t) = end.At (ends at es)
+
+-- the first entry with a selector, of entries that stand from a place on
+unfoldable pub foundIn : (selector at : ℕ) → List Entry → Found
+foundIn selector at [] = found.Missing
+foundIn selector at (e ∷ es) = pick (eqb (e .selector) selector) (found.At (placed at e)) (foundIn selector (placed at e .end) es)

@@ -38,6 +38,24 @@ module _ (s : List ℕ) (n at : ℕ) where
   unfolding endOf ends
   end-reached h = rw (no-more n (drop at s) h)
 
+-- entries that were read: the first, and those after it
+pub record Cons (s : List ℕ) (n : ℕ) (l : EntryLayout) (e : Entry) (es : List Entry) (t : List ℕ) : Type 0 where
+  pub tail : List Entry
+  pub is : es ≡ e ∷ tail
+  pub others : entries (n - 1) (drop (l .end) s) ≡ read tail t
+
+pub entries-cons : (s : List ℕ) (n at : ℕ) (l : EntryLayout) (f : EntryFound s at l) (es : List Entry) (t : List ℕ) → 0 < n →
+    entries n (drop at s) ≡ read es t → Cons s n l (f .found) es t
+entries-cons s n at l f es t h k =
+    let x = both-read (entry (drop at s)) _ es t (sym (entries-more n (drop at s) h) ∙ k) in
+    let y = both-read (entries (n - 1) (x .rest)) _ es t (x .then) in
+    let a = f .is in
+    let b = x .is in
+    let c = y .then in
+    let d : drop (l .end) s ≡ x .rest = cc in
+    let u : y .rest ≡ t = cc in
+    record { tail = y .first; is = cc; others = ap (entries (n - 1)) d ∙ y .is ∙ ap (read (y .first)) u }
+
 -- entries that were read: how many, and what is left
 pub record EntriesTold (s : List ℕ) (n at : ℕ) (es : List Entry) (t : List ℕ) : Type 0 where
   pub rest : t ≡ drop (ends at es) s

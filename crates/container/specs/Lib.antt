@@ -7,8 +7,10 @@ pub mod EntryLaws
 pub mod EntryTold
 pub mod EntriesLaws
 pub mod ReaderLaws
+pub mod ReadTold
 pub mod Starts
 pub mod Verify
 pub mod Offsets
+pub mod OffsetLaws
 pub mod Answers
 pub mod Cases

@@ -18,7 +18,7 @@ length-words zero s = refl
 length-words (suc n) s = ap suc (length-words n (drop 8 s))
 
 module _ (s : List ℕ) (at : ℕ) where
-  pub part-there : (n : ℕ) → at + n ≤ length s → part n (drop at s) ≡ read (take n (drop at s)) (drop (at + n) s)
+  pub part-there : (n : ℕ) → n ≤ length s - at → part n (drop at s) ≡ read (take n (drop at s)) (drop (at + n) s)
   unfolding part
   part-there n h = rw (le-leb n (length (drop at s)) (rw length-drop (omega arith)), drop-drop n at s)
 
@@ -28,7 +28,7 @@ module _ (s : List ℕ) (at : ℕ) where
 
   pub number-there : (w : ℕ) → at + w ≤ length s → number w (drop at s) ≡ read (num (take w (drop at s))) (drop (at + w) s)
   unfolding number
-  number-there w h = rw (part-there w h)
+  number-there w h = rw (part-there w (omega arith))
 
   pub number-short : (w : ℕ) → length s - at < w → number w (drop at s) ≡ short
   unfolding number

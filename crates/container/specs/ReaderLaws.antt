@@ -49,22 +49,22 @@ module _ (s : List ℕ) (n : ℕ) (e : n ≡ num (take 4 (drop 4 s))) (h : 8 ≤
   module _ (l : 8 + n ≤ length s) where
     pub no-consts : counted (drop (8 + n) s) ≡ short → container (drop 4 s) ≡ short
     unfolding container
-    no-consts k = rw (number-there s 4 4 h, ← e, part-there s 8 n l, k)
+    no-consts k = rw (number-there s 4 4 h, ← e, part-there s 8 n (omega arith), k)
 
     module _ (k : Slots) (next : ℕ) (K : Listed s (8 + n) k next) where
       pub no-count : length s - next < 4 → container (drop 4 s) ≡ short
       unfolding container
-      no-count r = rw (number-there s 4 4 h, ← e, part-there s 8 n l, K .is, number-short s next 4 r)
+      no-count r = rw (number-there s 4 4 h, ← e, part-there s 8 n (omega arith), K .is, number-short s next 4 r)
 
       module _ (m : ℕ) (f : m ≡ num (take 4 (drop next s))) (g : next + 4 ≤ length s) where
         pub no-entries : entries m (drop (next + 4) s) ≡ short → container (drop 4 s) ≡ short
         unfolding container
-        no-entries r = rw (number-there s 4 4 h, ← e, part-there s 8 n l, K .is, number-there s next 4 g, ← f, r)
+        no-entries r = rw (number-there s 4 4 h, ← e, part-there s 8 n (omega arith), K .is, number-there s next 4 g, ← f, r)
 
         module _ (end : ℕ) (E : EntriesFound s m (next + 4) end) where
           is : container (drop 4 s) ≡ read (record { code = take n (drop 8 s); consts = K .words; entries = E .found }) (drop end s)
           unfolding container
-          is = rw (number-there s 4 4 h, ← e, part-there s 8 n l, K .is, number-there s next 4 g, ← f, E .is)
+          is = rw (number-there s 4 4 h, ← e, part-there s 8 n (omega arith), K .is, number-there s next 4 g, ← f, E .is)
 
           pub left-over : end < length s → Refused Trailing ≡ readingOf (whole (container (drop 4 s)))
           unfolding whole readingOf

@@ -9,6 +9,9 @@ pub mod EntriesLaws
 pub mod ReaderLaws
 pub mod ReadTold
 pub mod Starts
+pub mod Marks
+pub mod StartLaws
+pub mod MarkLaws
 pub mod Verify
 pub mod Offsets
 pub mod OffsetLaws

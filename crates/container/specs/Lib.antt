@@ -11,7 +11,9 @@ pub mod ReadTold
 pub mod Starts
 pub mod Marks
 pub mod StartLaws
+pub mod SweepLaws
 pub mod MarkLaws
+pub mod ScanLaws
 pub mod Verify
 pub mod Offsets
 pub mod OffsetLaws

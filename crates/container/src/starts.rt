@@ -1,10 +1,5 @@
-// Instruction starts, marked in a map of bits.
-ghost use mathlib.Core.Path.{_≡_};
-ghost use Prim.Native.Nat.{_%_, _^_};
-ghost use Rattle.container.specs.Starts.{refersTo, marked};
-ghost use Rattle.container.specs.Marks.{markIn};
+// What a reading of the code answers.
 use isa::codec::DecodeError;
-use isa::instr::Instr;
 
 // What an instruction refers to.
 pub enum Refers {
@@ -13,51 +8,15 @@ pub enum Refers {
     Nothing,
 }
 
+// Whether a constant's index is below their number.
+pub enum Index {
+    Within,
+    Bad(u64),
+}
+
 // How a reading of the code ended.
 pub enum Scan {
     Whole,
     Undecodable(usize, DecodeError),
     BadConst(u64),
-}
-
-// What an instruction refers to.
-pub fn refers_to(i: Instr) -> Refers
-    ensures { λ r. ⌜ r ≡ refersTo i ⌝ }
-{
-    let p = i.parts_of();
-    let op = p.0;
-    let number = p.2;
-    match op.byte() {
-        4 => Refers::Const(number),
-        64 | 65 | 66 | 67 => Refers::Target(number),
-        _ => Refers::Nothing,
-    }
-}
-
-// A place's bit in its byte.
-fn bit_of(place: usize) -> u8
-    ensures { λ r. ⌜ r ≡ 2 ^ (place % 8) ⌝ }
-{
-    1 << (place % 8)
-}
-
-// Marks a place; one past the map is left out.
-pub fn mark(map: &mut [u8], place: usize)
-    ensures { λ _. ⌜ now (map .exit) ≡ markIn (now (map .entry)) place ⌝ }
-{
-    let k = place / 8;
-    if k < map.len() {
-        map[k] = map[k] | bit_of(place);
-    }
-}
-
-// Whether a place is marked.
-pub fn is_start(map: &[u8], place: u64) -> bool
-    ensures { λ r. ⌜ r ≡ marked (now (map .entry)) place ⌝ }
-{
-    let k = (place / 8) as usize;
-    if map.len() <= k {
-        return false;
-    }
-    (map[k] >> (place % 8)) % 2 == 1
 }

@@ -1,8 +1,8 @@
 -- `bit_of` meets its contract: a shift by less than eight fits a byte. Assumes nothing.
 use borrow.Author.Needs.{needs}
 use Rattle.container.specs.MarkLaws.{one-shifted}
-use Rattle.container.proofs.starts.bit_of.Statement.{statement}
-use Rattle.container.proofs.starts.bit_of.Tie as tie
+use Rattle.container.proofs.marks.bit_of.Statement.{statement}
+use Rattle.container.proofs.marks.bit_of.Tie as tie
 
 cast-result : tie.Need-cast-result
 cast-result c = search needs

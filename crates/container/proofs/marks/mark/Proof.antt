@@ -3,8 +3,8 @@ use denote.Ref.{now}
 use borrow.Author.Needs.{needs}
 use Rattle.container.specs.Marks.{markIn}
 use Rattle.container.specs.MarkLaws.{mark-past}
-use Rattle.container.proofs.starts.mark.Statement.{statement}
-use Rattle.container.proofs.starts.mark.Tie as tie
+use Rattle.container.proofs.marks.mark.Statement.{statement}
+use Rattle.container.proofs.marks.mark.Tie as tie
 
 slice-read-map : tie.Need-slice-read-map
 slice-read-map c = search needs

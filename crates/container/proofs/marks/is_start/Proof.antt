@@ -4,8 +4,8 @@ use denote.Ref.{now}
 use borrow.Author.Needs.{needs}
 use Rattle.container.specs.Starts.{marked}
 use Rattle.container.specs.MarkLaws.{past-map}
-use Rattle.container.proofs.starts.is_start.Statement.{statement}
-use Rattle.container.proofs.starts.is_start.Tie as tie
+use Rattle.container.proofs.marks.is_start.Statement.{statement}
+use Rattle.container.proofs.marks.is_start.Tie as tie
 
 returns : tie.Need-returns
 returns c = past-map (now (c .before .args .map)) (c .before .args .place) (c .if1 .taken)

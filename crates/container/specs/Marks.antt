@@ -10,8 +10,8 @@ use Rattle.words.specs.Lists.{member}
 use Rattle.container.specs.Starts.{marked}
 use Rattle.container.specs.declared.starts.Refers.{Refers}
 use Rattle.container.specs.declared.starts.Refers.the-variants.{Const, Target, Nothing}
-use Rattle.container.specs.declared.starts.Index.{Index}
-use Rattle.container.specs.declared.starts.Index.the-variants.{Within, Bad}
+use Rattle.container.specs.declared.starts.Stands.{Stands}
+use Rattle.container.specs.declared.starts.Stands.the-variants.{Yes, No}
 
 -- a place marked: bit p % 8 of byte p / 8 is set
 unfoldable pub markIn : List ℕ → ℕ → List ℕ
@@ -23,7 +23,7 @@ pub record Marks (before places after : List ℕ) : Type 0 where
   pub at : (p : ℕ) → p < 8 * length before → marked after p ≡ either (member p places) (marked before p)
 
 -- a constant's index must be below their number
-unfoldable pub indexOf : Refers → (consts : ℕ) → Index
-indexOf (Const k) consts = pick (ltb k consts) Within (Bad k)
-indexOf (Target t) consts = Within
-indexOf Nothing consts = Within
+unfoldable pub indexOf : Refers → (consts : ℕ) → Stands
+indexOf (Const k) consts = pick (ltb k consts) Yes (No k)
+indexOf (Target t) consts = Yes
+indexOf Nothing consts = Yes

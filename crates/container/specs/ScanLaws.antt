@@ -22,7 +22,7 @@ use Rattle.container.specs.MarkLaws.{mark-at}
 use Rattle.container.specs.SweepLaws.{Sweep, at-end, on}
 use Rattle.container.specs.declared.starts.Refers.{Refers}
 use Rattle.container.specs.declared.starts.Refers.the-variants.{Const, Target, Nothing}
-use Rattle.container.specs.declared.starts.Index.the-variants.{Within, Bad}
+use Rattle.container.specs.declared.starts.Stands.the-variants.{Yes, No}
 use Rattle.container.specs.declared.starts.Scan.the-variants.{Whole, Undecodable, BadConst}
 
 -- from a place on, with as many turns as bytes are left
@@ -42,21 +42,21 @@ pub from-start : (code : List ℕ) (consts : ℕ) → walkOf code consts ≡ onw
 unfolding walkOf
 from-start code consts = rw sub-zero
 
-unless-within : (r : Refers) (consts : ℕ) (w : Walk) → indexOf r consts ≡ Within → unlessBad r consts w ≡ w
+unless-within : (r : Refers) (consts : ℕ) (w : Walk) → indexOf r consts ≡ Yes → unlessBad r consts w ≡ w
 unfolding indexOf unlessBad
 unless-within (Const k) consts w h = by (ltb k consts) h
   where
-    by : (t : Bool) → pick t Within (Bad k) ≡ Within → pick t w (ended (BadConst k)) ≡ w
+    by : (t : Bool) → pick t Yes (No k) ≡ Yes → pick t w (ended (BadConst k)) ≡ w
     by true h = refl
     by false h = absurd (let z : _≡_ {A = ℕ} 0 1 = cc in omega arith)
 unless-within (Target t) consts w h = refl
 unless-within Nothing consts w h = refl
 
-unless-bad : (r : Refers) (consts k : ℕ) (w : Walk) → indexOf r consts ≡ Bad k → unlessBad r consts w ≡ ended (BadConst k)
+unless-bad : (r : Refers) (consts k : ℕ) (w : Walk) → indexOf r consts ≡ No k → unlessBad r consts w ≡ ended (BadConst k)
 unfolding indexOf unlessBad
 unless-bad (Const j) consts k w h = by (ltb j consts) h
   where
-    by : (t : Bool) → pick t Within (Bad j) ≡ Bad k → pick t w (ended (BadConst j)) ≡ ended (BadConst k)
+    by : (t : Bool) → pick t Yes (No j) ≡ No k → pick t w (ended (BadConst j)) ≡ ended (BadConst k)
     by true h = absurd (let z : _≡_ {A = ℕ} 0 1 = cc in omega arith)
     by false h = let e : j ≡ k = cc in rw e
 unless-bad (Target t) consts k w h = absurd (let z : _≡_ {A = ℕ} 0 1 = cc in omega arith)
@@ -75,11 +75,11 @@ module _ (code : List ℕ) (consts place : ℕ) where
     walk-refused e d = by-decode ∙ rw d
 
     module _ (i : Instr) (n : ℕ) (d : decodeAt code place ≡ Done i n) where
-      pub walk-bad : (k : ℕ) → indexOf (refersTo i) consts ≡ Bad k → onward code consts place ≡ met place (ended (BadConst k))
+      pub walk-bad : (k : ℕ) → indexOf (refersTo i) consts ≡ No k → onward code consts place ≡ met place (ended (BadConst k))
       unfolding walkBy
       walk-bad k b = by-decode ∙ rw (d, unless-bad (refersTo i) consts k (onward code consts (place + n)) b)
 
-      pub walk-on : indexOf (refersTo i) consts ≡ Within → onward code consts place ≡ met place (onward code consts (place + n))
+      pub walk-on : indexOf (refersTo i) consts ≡ Yes → onward code consts place ≡ met place (onward code consts (place + n))
       unfolding walkBy
       walk-on b = by-decode ∙ rw (d, unless-within (refersTo i) consts (onward code consts (place + n)) b)
 
@@ -134,13 +134,13 @@ module _ (code : List ℕ) (consts : ℕ) (start : List ℕ) (place : ℕ) (map 
     scan-refused e d = stopped (ended (Undecodable place e)) (walk-refused code consts place h e d) map (marks-none map)
 
     module _ (x : Instr) (n : ℕ) (d : decodeAt code place ≡ Done x n) (after : List ℕ) (m : after ≡ markIn map place) where
-      pub scan-bad : (k : ℕ) → indexOf (refersTo x) consts ≡ Bad k → Scanned code consts start (met place (ended (BadConst k))) after
+      pub scan-bad : (k : ℕ) → indexOf (refersTo x) consts ≡ No k → Scanned code consts start (met place (ended (BadConst k))) after
       unfolding ended met
       scan-bad k b =
           stopped (met place (ended (BadConst k))) (walk-bad code consts place h x n d k b) after
           (marks-more map place [] after (rw (← m) (marks-none after)))
 
-      pub scan-on : indexOf (refersTo x) consts ≡ Within → Scanning code consts start (place + n) after
+      pub scan-on : indexOf (refersTo x) consts ≡ Yes → Scanning code consts start (place + n) after
       unfolding met
       scan-on b =
           let e = walk-on code consts place h x n d b in

@@ -2,7 +2,7 @@
 ghost use mathlib.Core.Path.{_≡_};
 ghost use Rattle.container.specs.Starts.{refersTo, walkOf};
 ghost use Rattle.container.specs.Marks.{Marks, indexOf};
-use super::starts::Index;
+use super::starts::Stands;
 use super::starts::Refers;
 use super::starts::Scan;
 use isa::codec::Decoded;
@@ -22,18 +22,18 @@ pub fn refers(i: Instr) -> Refers
     }
 }
 
-fn index_of(r: Refers, consts: u64) -> Index
+fn index_of(r: Refers, consts: u64) -> Stands
     ensures { λ i. ⌜ i ≡ indexOf r consts ⌝ }
 {
     match r {
         Refers::Const(k) => {
             if k < consts {
-                return Index::Within;
+                return Stands::Yes;
             }
-            Index::Bad(k)
+            Stands::No(k)
         }
-        Refers::Target(_) => Index::Within,
-        Refers::Nothing => Index::Within,
+        Refers::Target(_) => Stands::Yes,
+        Refers::Nothing => Stands::Yes,
     }
 }
 
@@ -52,7 +52,7 @@ pub fn scan(code: &[u8], consts: u64, map: &mut [u8]) -> Scan
             return Scan::Undecodable(place, e);
         };
         super::marks::mark(map, place);
-        if let Index::Bad(k) = index_of(refers(i), consts) {
+        if let Stands::No(k) = index_of(refers(i), consts) {
             return Scan::BadConst(k);
         }
         place += n;

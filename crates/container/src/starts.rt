@@ -8,10 +8,10 @@ pub enum Refers {
     Nothing,
 }
 
-// Whether a constant's index is below their number.
-pub enum Index {
-    Within,
-    Bad(u64),
+// Whether what an instruction refers to is there; if not, its number.
+pub enum Stands {
+    Yes,
+    No(u64),
 }
 
 // How a reading of the code ended.

@@ -1,5 +1,8 @@
 // Containers: reading, writing and checking them.
+pub mod entries;
+pub mod marks;
 pub mod offsets;
 pub mod reader;
+pub mod scan;
 pub mod starts;
 pub mod verify;

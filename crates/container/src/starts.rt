@@ -1,4 +1,4 @@
-// Instruction starts, marked in a map of bits.
+// What a reading of the code answers.
 use isa::codec::DecodeError;
 
 // What an instruction refers to.
@@ -6,6 +6,12 @@ pub enum Refers {
     Const(u64),
     Target(u64),
     Nothing,
+}
+
+// Whether what an instruction refers to is there; if not, its number.
+pub enum Stands {
+    Yes,
+    No(u64),
 }
 
 // How a reading of the code ended.

@@ -1,0 +1,56 @@
+-- `entry_offset` meets its contract: the bytes are read, then the entries searched. Assumes nothing.
+use mathlib.Core.Path.{_≡_, sym, ap, _∙_}
+use denote.Ref.{now}
+use borrow.Author.Needs.{needs}
+use Rattle.container.specs.Reader.{readOf}
+use Rattle.container.specs.Offsets.{offsetOf}
+use Rattle.container.specs.ReadTold.{read-told, refused-told}
+use Rattle.container.specs.OffsetLaws.{offsetBy, offset-told}
+use Rattle.container.proofs.offsets.entry_offset.Statement.{statement}
+use Rattle.container.proofs.offsets.entry_offset.Tie as tie
+
+read-requires : tie.Need-read-requires
+read-requires c κs = search needs
+
+enum-known-d : tie.Need-enum-known-d
+enum-known-d c = search needs
+
+enum-known-d-2 : tie.Need-enum-known-d-2
+enum-known-d-2 c = search needs
+
+find-requires : tie.Need-find-requires
+find-requires c κs = search needs
+
+enum-known-f : tie.Need-enum-known-f
+enum-known-f c = search needs
+
+enum-told : tie.Need-enum-told
+enum-told c = search needs
+
+returns : tie.Need-returns
+unfolding offsetOf
+returns c = rw (refused-told (now (c .before .before .before .before .before .args .s)) _ (sym (c .before .d .given .1) ∙ c .before .before .before .read .ensures))
+
+-- what the search found decides
+searched : (c : tie.After-find) → offsetBy (c .find .result) ≡ offsetOf (c .before .before .before .before .before .before .args .selector) (readOf (now (c .before .before .before .before .before .before .args .s)))
+searched c = let s = now (c .before .before .before .before .before .before .args .s) in offset-told s (c .before .before .before .before .before .before .args .selector) _ _ (read-told s _ (sym (c .before .before .d2 .given .1) ∙ c .before .before .before .before .read .ensures)) (c .find .ensures)
+
+returns-2 : tie.Need-returns-2
+returns-2 c = let f = c .before .before .before in ap offsetBy (sym (c .before .f .given .1)) ∙ searched f
+
+returns-3 : tie.Need-returns-3
+returns-3 c = let f = c .before .before in ap offsetBy (sym (c .enum-told .given .1)) ∙ searched f
+
+pub entry-offset-spec : {M : Type 1} → statement M
+entry-offset-spec =
+    tie.close
+    (tie.spec
+    read-requires
+    enum-known-d
+    enum-known-d-2
+    find-requires
+    enum-known-f
+    enum-told
+    returns
+    returns-2
+    returns-3)

@@ -1,0 +1,71 @@
+-- `find` meets its contract. The loop's invariant: the entries that are left decide. Assumes nothing.
+use mathlib.Core.Path.{_≡_, sym, _∙_}
+use mathlib.Core.List.{List}
+use Prim.Native.Nat.{ℕ}
+use native.Mathlib.Omega.{arith}
+use denote.Ref.{now}
+use borrow.Author.Needs.{needs}
+use Rattle.container.specs.EntryTold.{EntryFound, entry-found, entry-short}
+use Rattle.container.specs.OffsetLaws.{Searching, search-begins, search-on, none-there, none-left, found-here}
+use Rattle.container.proofs.offsets.find.Statement.{statement}
+use Rattle.container.proofs.offsets.find.Tie as tie
+
+abbrev Inv-loop : tie.InvT-loop
+Inv-loop s first n selector at₀ more₀ at more = Searching s selector first n at more
+
+abbrev μ-loop : tie.MeasureT-loop
+μ-loop s first n selector at₀ more₀ at more = more
+
+loop-holds : tie.Need-loop-holds Inv-loop μ-loop
+loop-holds c = search-begins _ _ _ _
+
+entry-at-requires : tie.Need-entry-at-requires Inv-loop μ-loop
+entry-at-requires c κs = search needs
+
+enum-known-e : tie.Need-enum-known-e Inv-loop μ-loop
+enum-known-e c = search needs
+
+enum-told : tie.Need-enum-told Inv-loop μ-loop
+enum-told c = search needs
+
+returns : tie.Need-returns Inv-loop μ-loop
+returns c =
+    let e = c .before .before in
+    let l = e .before .before in
+    λ es t k. absurd (none-there _ _ _ _ _ _ (l .loop .inv) es t k (e .before .loop-test .taken) (entry-short _ (l .loop .at) (sym (c .enum-told .given .1) ∙ e .entry-at .ensures)))
+
+-- the entry that a turn found
+entry-of : (c : tie.After-known-told Inv-loop μ-loop) → EntryFound (now (c .before .before .before .before .before .before .before .args .s)) (c .before .before .before .before .before .loop .at) (c .before .e .given .0 .0)
+entry-of c = entry-found _ (c .before .before .before .before .before .loop .at) _ (sym (c .before .e .given .1) ∙ c .before .before .before .entry-at .ensures)
+
+returns-2 : tie.Need-returns-2 Inv-loop μ-loop
+returns-2 c = λ es t k. found-here _ _ _ _ _ _ (c .before .before .before .before .before .before .before .loop .inv) es t k (c .before .before .before .before .before .before .loop-test .taken) _ (entry-of (c .before .before)) (c .if1 .taken)
+
+sub-more : tie.Need-sub-more Inv-loop μ-loop
+sub-more c = omega arith
+
+loop-less : tie.Need-loop-less Inv-loop μ-loop
+loop-less c = omega arith
+
+loop-again : tie.Need-loop-again Inv-loop μ-loop
+loop-again c = search-on _ _ _ _ _ _ (c .before .before .before .before .before .before .before .loop .inv) (c .before .before .before .before .before .before .loop-test .taken) _ (entry-of (c .before .before)) (c .if1 .left)
+
+returns-3 : tie.Need-returns-3 Inv-loop μ-loop
+returns-3 c = λ es t k. none-left _ _ _ _ _ _ (c .before .loop .inv) es t k (c .loop-test .left)
+
+pub find-spec : {M : Type 1} → statement M
+find-spec =
+    tie.close
+    (tie.spec
+    Inv-loop
+    μ-loop
+    loop-holds
+    entry-at-requires
+    enum-known-e
+    enum-told
+    returns
+    returns-2
+    sub-more
+    loop-less
+    loop-again
+    returns-3)

@@ -1,0 +1,36 @@
+-- `index_of` meets its contract. Assumes nothing.
+use mathlib.Core.Path.{sym}
+use borrow.Author.Needs.{needs}
+use borrow.Author.Tests.{lt-ltb, le-ltb}
+use Rattle.container.specs.Marks.{indexOf}
+use Rattle.container.proofs.scan.index_of.Statement.{statement}
+use Rattle.container.proofs.scan.index_of.Tie as tie
+
+enum-known-r : tie.Need-enum-known-r
+enum-known-r c = search needs
+
+returns : tie.Need-returns
+unfolding indexOf
+returns c = rw (c .before .before .r .given .1, lt-ltb _ _ (c .if1 .taken))
+
+enum-told : tie.Need-enum-told
+enum-told c = search needs
+
+enum-told-2 : tie.Need-enum-told-2
+enum-told-2 c = search needs
+
+returns-2 : tie.Need-returns-2
+unfolding indexOf
+returns-2 c = rw (c .before .before .r .given .1, le-ltb _ _ (c .if1 .left))
+
+returns-3 : tie.Need-returns-3
+unfolding indexOf
+returns-3 c = rw (c .enum-told .given .1)
+
+returns-4 : tie.Need-returns-4
+unfolding indexOf
+returns-4 c = rw (c .enum-told2 .given .1)
+
+pub index-of-spec : {M : Type 1} → statement M
+index-of-spec =
+    tie.close (tie.spec enum-known-r returns enum-told enum-told-2 returns-2 returns-3 returns-4)

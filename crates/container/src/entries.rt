@@ -1,0 +1,116 @@
+// Counted lists and entries, where they stand in bytes.
+ghost use mathlib.Core.Path.{_≡_};
+ghost use Prim.Native.Nat.{_-_};
+ghost use lib.ListN.{length, drop};
+ghost use Rattle.container.specs.Reader.{counted, entry, entries};
+ghost use Rattle.container.specs.Entries.{listAt, entryAt, endOf};
+
+// Where a list's first word stands, and how many words it has.
+pub struct Slots {
+    pub at: usize,
+    pub count: usize,
+}
+
+// A counted list, and the place after it.
+pub enum CountedRead {
+    Done(Slots, usize),
+    Short,
+}
+
+// An entry's numbers, its four lists and the place after it.
+pub struct EntryLayout {
+    pub selector: u64,
+    pub offset: u64,
+    pub reads: Slots,
+    pub writes: Slots,
+    pub keyed_reads: Slots,
+    pub keyed_writes: Slots,
+    pub end: usize,
+}
+
+pub enum EntryRead {
+    Done(EntryLayout),
+    Short,
+}
+
+// The place after entries.
+pub enum End {
+    At(usize),
+    Short,
+}
+
+// How many bytes stand from a place on.
+pub fn left(s: &[u8], at: usize) -> usize
+    ensures { λ r. ⌜ r ≡ length (now (s .entry)) - at ⌝ }
+{
+    if s.len() < at { 0 } else { s.len() - at }
+}
+
+// The counted list at a place.
+pub fn counted_at(s: &[u8], at: usize) -> CountedRead
+    ensures { λ r. ⌜ r ≡ listAt at (counted (drop at (now (s .entry)))) ⌝ }
+{
+    if left(s, at) < 4 {
+        return CountedRead::Short;
+    }
+    let count = words::bytes::read(s, at, 4) as usize;
+    let first = at + 4;
+    if (s.len() - first) / 8 < count {
+        return CountedRead::Short;
+    }
+    CountedRead::Done(
+        Slots {
+            at: first,
+            count: count,
+        },
+        first + count * 8,
+    )
+}
+
+// The entry at a place.
+pub fn entry_at(s: &[u8], at: usize) -> EntryRead
+    ensures { λ r. ⌜ r ≡ entryAt at (entry (drop at (now (s .entry)))) ⌝ }
+{
+    if left(s, at) < 8 {
+        return EntryRead::Short;
+    }
+    let selector = words::bytes::read(s, at, 4);
+    let offset = words::bytes::read(s, at + 4, 4);
+    let CountedRead::Done(reads, w) = counted_at(s, at + 8) else {
+        return EntryRead::Short;
+    };
+    let CountedRead::Done(writes, kr) = counted_at(s, w) else {
+        return EntryRead::Short;
+    };
+    let CountedRead::Done(keyed_reads, kw) = counted_at(s, kr) else {
+        return EntryRead::Short;
+    };
+    let CountedRead::Done(keyed_writes, end) = counted_at(s, kw) else {
+        return EntryRead::Short;
+    };
+    EntryRead::Done(EntryLayout {
+        selector,
+        offset,
+        reads,
+        writes,
+        keyed_reads,
+        keyed_writes,
+        end,
+    })
+}
+
+// The place after n entries that stand from a place on.
+pub fn entries_end(s: &[u8], first: usize, n: usize) -> End
+    ensures { λ r. ⌜ r ≡ endOf first (entries n (drop first (now (s .entry)))) ⌝ }
+{
+    let mut at = first;
+    let mut more = n;
+    while 0 < more {
+        let EntryRead::Done(e) = entry_at(s, at) else {
+            return End::Short;
+        };
+        at = e.end;
+        more -= 1;
+    }
+    End::At(at)
+}

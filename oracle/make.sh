@@ -3,7 +3,7 @@
 set -eu
 cd "$(dirname "$0")/.."
 out=target/oracle
-mkdir -p "$out" crates/codec crates/arith
+mkdir -p "$out" crates/codec crates/arith crates/verdicts
 
 build() {
     rustc --edition 2021 -O -C panic=abort -L "$out" --out-dir "$out" "$@"
@@ -18,4 +18,4 @@ vectors() {
 }
 vectors codec crates/codec/stdin crates/codec/stdout
 vectors arith crates/arith/stdin crates/arith/stdout
-vectors verdict "$out/verdict.in" "$out/verdict.out"
+vectors verdict crates/verdicts/stdin crates/verdicts/stdout

@@ -11,11 +11,17 @@ fn verified(bytes: &[u8]) -> Result<Container, Refusal> {
     Ok(container)
 }
 
+/// From this length on a record stands for code of so many zero bytes more, which would be long to write out.
+const LARGE: u32 = 1 << 31;
+
 /// A record: length (4), that many bytes of a container.
 pub fn line(input: &mut Input) -> Option<String> {
     let length = input.u32()?;
-    let bytes = input.bytes(length as usize)?;
-    Some(match verified(bytes) {
+    let bytes = match length.checked_sub(LARGE) {
+        Some(n) => Container::new(vec![0; n as usize], vec![], vec![]).canonical_bytes(),
+        None => input.bytes(length as usize)?.to_vec(),
+    };
+    Some(match verified(&bytes) {
         Ok(c) => format!(
             "ok code={} consts={} entries={}",
             c.code.len(),

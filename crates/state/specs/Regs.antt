@@ -1,8 +1,10 @@
 -- The register file and its operations (document 01, The run and What changes shape here).
+use mathlib.Core.List.{List}
 use Prim.Native.Nat.{ℕ, _+_, _-_, _*_, _/_, _%_, _^_}
 use lib.ListN.{getD, set, replicate}
 use lib.Dec.{eqb}
 use Rattle.words.specs.Choice.{pick}
+use Rattle.words.specs.Wide.{wide}
 use Rattle.isa.specs.declared.instr.Instr.{Instr}
 use Rattle.isa.specs.declared.instr.Instr.the-variants as instr
 use Rattle.state.specs.declared.alu.Op.{Op}
@@ -11,20 +13,26 @@ use Rattle.state.specs.declared.alu.Value.{Value}
 use Rattle.state.specs.declared.alu.Value.the-variants.{Done, Fault}
 use Rattle.state.specs.declared.alu.Wanted.{Wanted}
 use Rattle.state.specs.declared.alu.Wanted.the-variants.{Quotient, Rest}
+use Rattle.state.specs.declared.regs.Outcome.{Outcome}
+use Rattle.state.specs.declared.regs.Outcome.the-variants as outcome
 use Rattle.state.specs.declared.regs.RegFile.{RegFile}
 use Rattle.state.specs.declared.regs.Stepped.{Stepped}
 use Rattle.state.specs.Alu.{aluOf, partOf}
 
+-- the file of a list of registers
+abbrev pub file : List ℕ → RegFile
+file l = record { r = l }
+
 -- all registers zero
 abbrev pub cleared : RegFile
-cleared = record { r = replicate 16 0 }
+cleared = file (replicate 16 0)
 
 -- a register, and the file with another value in it; past the last 0, and no change
 abbrev pub reg : RegFile → ℕ → ℕ
 reg f i = getD (f .r) i 0
 
 abbrev pub setReg : RegFile → ℕ → ℕ → RegFile
-setReg f i v = record { r = set (f .r) i v }
+setReg f i v = file (set (f .r) i v)
 
 -- a step that is done, and one that faults and leaves the file
 abbrev pub done : RegFile → Stepped
@@ -44,6 +52,12 @@ wideReg f lo hi = reg f hi * 2 ^ 64 + reg f lo
 
 abbrev pub setWide : RegFile → (lo hi v : ℕ) → RegFile
 setWide f lo hi v = setReg (setReg f lo (v % 2 ^ 64)) hi (v / 2 ^ 64)
+
+-- the step of an outcome
+abbrev pub applied : RegFile → Outcome → Stepped
+applied f (outcome.Put d v) = done (setReg f d v)
+applied f (outcome.PutWide lo hi w) = done (setWide f lo hi (wide w))
+applied f (outcome.Fault n) = refused f n
 
 -- an operation on two registers
 abbrev pub ruleTwo : Op → RegFile → (d a b : ℕ) → Stepped

@@ -15,10 +15,12 @@ use Rattle.state.specs.declared.alu.Op.{Op}
 use Rattle.state.specs.declared.alu.Value.{Value}
 use Rattle.state.specs.declared.alu.Value.the-variants.{Done, Fault}
 use Rattle.state.specs.declared.alu.Wanted.{Wanted}
+use Rattle.state.specs.declared.regs.Outcome.{Outcome}
+use Rattle.state.specs.declared.regs.Outcome.the-variants as outcome
 use Rattle.state.specs.declared.regs.RegFile.{RegFile}
 use Rattle.state.specs.declared.regs.Stepped.{Stepped}
 use Rattle.state.specs.Alu.{aluOf, partOf}
-use Rattle.state.specs.Regs.{reg, setReg, done, refused, putValue, wideReg, setWide, ruleTwo, overWide, ruleWide, stepOf}
+use Rattle.state.specs.Regs.{reg, setReg, done, refused, putValue, wideReg, setWide, ruleTwo, overWide, ruleWide, applied, stepOf}
 
 -- past the last register there is none
 pub read-past : (l : List ℕ) (i : ℕ) → length l ≤ i → 0 ≡ getD l i 0
@@ -41,19 +43,12 @@ read-words lo hi l h p q = rw (p, q)
 pub set-words : (f g h : RegFile) (lo hi l u : ℕ) → l < 2 ^ 64 → g ≡ setReg f lo l → h ≡ setReg g hi u → h ≡ setWide f lo hi (u * 2 ^ 64 + l)
 set-words f g h lo hi l u w p q = q ∙ ap (λ (x : RegFile). setReg x hi u) p ∙ (λ i. setReg (setReg f lo (sym (low u 64 w) i)) hi (sym (high u 64 w) i))
 
--- an operation's value by its operands
-pub value-of : (o : Op) (a b x y : ℕ) (v : Value) → x ≡ a → y ≡ b → v ≡ aluOf o x y → v ≡ aluOf o a b
-value-of o a b x y v p q e = e ∙ (λ i. aluOf o (p i) (q i))
+-- the ends of an operation on two registers
+pub two-done : (o : Op) (f : RegFile) (d a b x y : ℕ) (v : Value) (w : ℕ) → x ≡ reg f a → y ≡ reg f b → v ≡ aluOf o x y → v ≡ Done w → done (setReg f d w) ≡ ruleTwo o f d a b
+two-done o f d a b x y v w p q e k = ap (putValue f d) (sym k ∙ e ∙ (λ i. aluOf o (p i) (q i)))
 
--- the ends of an operation on two registers: a word within the file, one past it, and a fault
-pub two-done : (o : Op) (f : RegFile) (d a b : ℕ) (v : Value) (w : ℕ) → v ≡ aluOf o (reg f a) (reg f b) → v ≡ Done w → done (setReg f d w) ≡ ruleTwo o f d a b
-two-done o f d a b v w e k = ap (putValue f d) (sym k ∙ e)
-
-pub two-past : (o : Op) (f : RegFile) (d a b : ℕ) (v : Value) (w : ℕ) → length (f .r) ≡ 16 → 16 ≤ d → v ≡ aluOf o (reg f a) (reg f b) → v ≡ Done w → done f ≡ ruleTwo o f d a b
-two-past o f d a b v w l h e k = ap done (set-past f d w l h) ∙ two-done o f d a b v w e k
-
-pub two-fault : (o : Op) (f : RegFile) (d a b : ℕ) (v : Value) (n : ℕ) → v ≡ aluOf o (reg f a) (reg f b) → v ≡ Fault n → refused f n ≡ ruleTwo o f d a b
-two-fault o f d a b v n e k = ap (putValue f d) (sym k ∙ e)
+pub two-fault : (o : Op) (f : RegFile) (d a b x y : ℕ) (v : Value) (n : ℕ) → x ≡ reg f a → y ≡ reg f b → v ≡ aluOf o x y → v ≡ Fault n → refused f n ≡ ruleTwo o f d a b
+two-fault o f d a b x y v n p q e k = ap (putValue f d) (sym k ∙ e ∙ (λ i. aluOf o (p i) (q i)))
 
 -- the ends of a division of two words
 over-some : (f : RegFile) (lo hi d v : ℕ) → eqb d 0 ≡ false → done (setWide f lo hi v) ≡ overWide f lo hi d v
@@ -62,9 +57,10 @@ over-some f lo hi d v z = rw z
 pub divide-zero : (w : Wanted) (f : RegFile) (dlo dhi alo ahi blo bhi d : ℕ) (z : Bool) → d ≡ wideReg f blo bhi → z ≡ eqb d 0 → z ≡ true → refused f 3 ≡ ruleWide w f dlo dhi alo ahi blo bhi
 divide-zero w f dlo dhi alo ahi blo bhi d z e t h = rw (ap (λ (x : ℕ). eqb x 0) (sym e) ∙ sym t ∙ h)
 
-pub divide-done : (w : Wanted) (f g : RegFile) (dlo dhi alo ahi blo bhi n d v : ℕ) (z : Bool) → n ≡ wideReg f alo ahi → d ≡ wideReg f blo bhi → z ≡ eqb d 0 → z ≡ false → v ≡ partOf w n d → g ≡ setWide f dlo dhi v → done g ≡ ruleWide w f dlo dhi alo ahi blo bhi
-divide-done w f g dlo dhi alo ahi blo bhi n d v z p q t h e k =
-    ap done (k ∙ ap (setWide f dlo dhi) e) ∙ over-some f dlo dhi d (partOf w n d) (sym t ∙ h) ∙ (λ i. overWide f dlo dhi (q i) (partOf w (p i) (q i)))
+pub divide-done : (w : Wanted) (f : RegFile) (dlo dhi alo ahi blo bhi n d v : ℕ) (z : Bool) → n ≡ wideReg f alo ahi → d ≡ wideReg f blo bhi → z ≡ eqb d 0 → z ≡ false → v ≡ partOf w n d
+    → done (setWide f dlo dhi v) ≡ ruleWide w f dlo dhi alo ahi blo bhi
+divide-done w f dlo dhi alo ahi blo bhi n d v z p q t h e =
+    ap (λ (x : ℕ). done (setWide f dlo dhi x)) e ∙ over-some f dlo dhi d (partOf w n d) (sym t ∙ h) ∙ (λ i. overWide f dlo dhi (q i) (partOf w (p i) (q i)))
 
 -- a divisor that is not 0 is positive
 pub not-zero : (d : ℕ) (z : Bool) → z ≡ eqb d 0 → z ≡ false → 0 < d
@@ -74,10 +70,17 @@ not-zero d z t h = let k = eqb-false d 0 (sym t ∙ h) in omega (arith, k)
 pub step-told : (i j : Instr) (f : RegFile) (s : Stepped) → i ≡ j → s ≡ stepOf j f → s ≡ stepOf i f
 step-told i j f s e h = rw e h
 
-pub mov-told : (i : Instr) (f : RegFile) (s : Stepped) (d a v : ℕ) → i ≡ Mov d a → v ≡ reg f a → s ≡ done (setReg f d v) → s ≡ stepOf i f
+pub mov-told : (i : Instr) (f : RegFile) (d a v : ℕ) → i ≡ Mov d a → v ≡ reg f a → done (setReg f d v) ≡ stepOf i f
 unfolding stepOf
-mov-told i f s d a v e k h = step-told i (Mov d a) f s e (h ∙ ap (λ (x : ℕ). done (setReg f d x)) k)
+mov-told i f d a v e k = step-told i (Mov d a) f (done (setReg f d v)) e (ap (λ (x : ℕ). done (setReg f d x)) k)
 
-pub not-told : (i : Instr) (f : RegFile) (s : Stepped) (d a v : ℕ) → i ≡ Not d a → v ≡ reg f a → s ≡ done (setReg f d (2 ^ 64 - 1 - v)) → s ≡ stepOf i f
+pub not-told : (i : Instr) (f : RegFile) (d a v : ℕ) → i ≡ Not d a → v ≡ reg f a → done (setReg f d (2 ^ 64 - 1 - v)) ≡ stepOf i f
 unfolding stepOf
-not-told i f s d a v e k h = step-told i (Not d a) f s e (h ∙ ap (λ (x : ℕ). done (setReg f d (2 ^ 64 - 1 - x))) k)
+not-told i f d a v e k = step-told i (Not d a) f (done (setReg f d (2 ^ 64 - 1 - v))) e (ap (λ (x : ℕ). done (setReg f d (2 ^ 64 - 1 - x))) k)
+
+-- the ends of a step: what the outcome says is done
+pub apply-done : (i : Instr) (f g h : RegFile) (o p : Outcome) → applied f o ≡ stepOf i f → o ≡ p → g ≡ h → done h ≡ applied f p → done g ≡ stepOf i f
+apply-done i f g h o p e k q r = ap done q ∙ r ∙ ap (applied f) (sym k) ∙ e
+
+pub apply-fault : (i : Instr) (f : RegFile) (o : Outcome) (n : ℕ) → applied f o ≡ stepOf i f → o ≡ outcome.Fault n → refused f n ≡ stepOf i f
+apply-fault i f o n e k = ap (applied f) (sym k) ∙ e

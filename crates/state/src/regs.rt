@@ -4,8 +4,7 @@ ghost use Prim.Native.Nat.{_+_, _*_, _^_};
 ghost use lib.Dec.{eqb};
 ghost use lib.ListN.{getD};
 ghost use Rattle.words.specs.Wide.{wide};
-ghost use Rattle.state.specs.Alu.{aluOf};
-ghost use Rattle.state.specs.Regs.{cleared, reg, setReg, setWide, done, refused, ruleTwo, ruleWide, stepOf};
+ghost use Rattle.state.specs.Regs.{cleared, file, reg, setReg, setWide, ruleTwo, ruleWide, applied, stepOf};
 use super::alu::Op;
 use super::alu::Value;
 use super::alu::Wanted;
@@ -22,21 +21,19 @@ pub struct Stepped {
     pub fault: u64,
 }
 
+// What an operation does: a word into a register, two words into two, or a fault and nothing.
+pub enum Outcome {
+    Put(u8, u64),
+    PutWide(u8, u8, Wide),
+    Fault(u64),
+}
+
 // A register, read where it stands; past the last 0.
 fn read(r: &[u64], i: u8) -> u64
     ensures { λ v. ⌜ v ≡ getD (now (r .entry)) i 0 ⌝ }
 {
     let k = i as usize;
     if k < r.len() { r[k] } else { 0 }
-}
-
-// What an operation gives on two registers.
-fn result(r: &[u64], op: Op, a: u8, b: u8) -> Value
-    ensures { λ v. ⌜ v ≡ aluOf op (getD (now (r .entry)) a 0) (getD (now (r .entry)) b 0) ⌝ }
-{
-    let x = read(r, a);
-    let y = read(r, b);
-    super::alu::alu(op, x, y)
 }
 
 // Two registers as one number.
@@ -53,6 +50,97 @@ fn is_zero(w: Wide) -> bool
     ensures { λ r. ⌜ r ≡ eqb (wide w) 0 ⌝ }
 {
     if w.hi == 0 { w.lo == 0 } else { false }
+}
+
+// An operation on two registers.
+fn two(r: &[u64], op: Op, d: u8, a: u8, b: u8) -> Outcome
+    ensures { λ o. ⌜ applied (file (now (r .entry))) o ≡ ruleTwo op (file (now (r .entry))) d a b ⌝ }
+{
+    let x = read(r, a);
+    let y = read(r, b);
+    let v = super::alu::alu(op, x, y);
+    match v {
+        Value::Done(w) => Outcome::Put(d, w),
+        Value::Fault(n) => Outcome::Fault(n),
+    }
+}
+
+// A division of two words by two.
+fn divide(r: &[u64], want: Wanted, dlo: u8, dhi: u8, alo: u8, ahi: u8, blo: u8, bhi: u8) -> Outcome
+    ensures { λ o. ⌜ applied (file (now (r .entry))) o ≡ ruleWide want (file (now (r .entry))) dlo dhi alo ahi blo bhi ⌝ }
+{
+    let n = pair(r, alo, ahi);
+    let d = pair(r, blo, bhi);
+    if is_zero(d) {
+        return Outcome::Fault(3);
+    }
+    let w = super::alu::divide_wide(want, n, d);
+    Outcome::PutWide(dlo, dhi, w)
+}
+
+// What an instruction does to registers that stand in a slice.
+pub fn operate(r: &[u64], i: Instr) -> Outcome
+    ensures { λ o. ⌜ applied (file (now (r .entry))) o ≡ stepOf i (file (now (r .entry))) ⌝ }
+{
+    match i {
+        Instr::Halt => Outcome::Fault(50),
+        Instr::Nop => Outcome::Fault(50),
+        Instr::Mov { d, a } => Outcome::Put(d, read(r, a)),
+        Instr::Ldi { d, imm } => Outcome::Put(d, imm),
+        Instr::Ldc { d: _, idx: _ } => Outcome::Fault(50),
+        Instr::Add { d, a, b } => two(r, Op::Add, d, a, b),
+        Instr::Sub { d, a, b } => two(r, Op::Sub, d, a, b),
+        Instr::Mul { d, a, b } => two(r, Op::Mul, d, a, b),
+        Instr::Div { d, a, b } => two(r, Op::Div, d, a, b),
+        Instr::Rem { d, a, b } => two(r, Op::Rem, d, a, b),
+        Instr::AddW { d, a, b } => two(r, Op::AddW, d, a, b),
+        Instr::SubW { d, a, b } => two(r, Op::SubW, d, a, b),
+        Instr::MulW { d, a, b } => two(r, Op::MulW, d, a, b),
+        Instr::MulHi { d, a, b } => two(r, Op::MulHi, d, a, b),
+        Instr::DivW {
+            dlo,
+            dhi,
+            alo,
+            ahi,
+            blo,
+            bhi,
+        } => divide(r, Wanted::Quotient, dlo, dhi, alo, ahi, blo, bhi),
+        Instr::RemW {
+            dlo,
+            dhi,
+            alo,
+            ahi,
+            blo,
+            bhi,
+        } => divide(r, Wanted::Rest, dlo, dhi, alo, ahi, blo, bhi),
+        Instr::And { d, a, b } => two(r, Op::And, d, a, b),
+        Instr::Or { d, a, b } => two(r, Op::Or, d, a, b),
+        Instr::Xor { d, a, b } => two(r, Op::Xor, d, a, b),
+        Instr::Not { d, a } => Outcome::Put(d, !read(r, a)),
+        Instr::Shl { d, a, b } => two(r, Op::Shl, d, a, b),
+        Instr::Shr { d, a, b } => two(r, Op::Shr, d, a, b),
+        Instr::Eq { d, a, b } => two(r, Op::Eq, d, a, b),
+        Instr::LtU { d, a, b } => two(r, Op::LtU, d, a, b),
+        Instr::GtU { d, a, b } => two(r, Op::GtU, d, a, b),
+        Instr::Push { a: _ } => Outcome::Fault(50),
+        Instr::Pop { d: _ } => Outcome::Fault(50),
+        Instr::MLoad { d: _, a: _ } => Outcome::Fault(50),
+        Instr::MStore { a: _, b: _ } => Outcome::Fault(50),
+        Instr::Jmp { target: _ } => Outcome::Fault(50),
+        Instr::Jz { a: _, target: _ } => Outcome::Fault(50),
+        Instr::Jnz { a: _, target: _ } => Outcome::Fault(50),
+        Instr::Call { target: _ } => Outcome::Fault(50),
+        Instr::Ret => Outcome::Fault(50),
+        Instr::SLoad { d: _, a: _ } => Outcome::Fault(50),
+        Instr::SStore { a: _, b: _ } => Outcome::Fault(50),
+        Instr::Send { a: _, b: _, c: _ } => Outcome::Fault(50),
+        Instr::Emit { a: _, b: _, c: _ } => Outcome::Fault(50),
+        Instr::Hash { a: _, b: _, c: _ } => Outcome::Fault(50),
+        Instr::VerifyMl { a: _, b: _, c: _ } => Outcome::Fault(50),
+        Instr::VerifySlh { a: _, b: _, c: _ } => Outcome::Fault(50),
+        Instr::MerkleVerify { a: _, b: _, c: _ } => Outcome::Fault(50),
+        Instr::Addr { a: _, b: _, c: _ } => Outcome::Fault(50),
+    }
 }
 
 impl RegFile {
@@ -80,146 +168,31 @@ impl RegFile {
     }
 
     // A number into two registers, the low word first.
-    fn set_wide(mut self, lo: u8, hi: u8, w: Wide) -> Self
+    pub fn set_wide(mut self, lo: u8, hi: u8, w: Wide) -> Self
         ensures { λ f. ⌜ f ≡ setWide self lo hi (wide w) ⌝ }
     {
         let f = self.set_reg(lo, w.lo);
         f.set_reg(hi, w.hi)
     }
 
-    fn two(mut self, op: Op, d: u8, a: u8, b: u8) -> Stepped
-        ensures { λ s. ⌜ s ≡ ruleTwo op self d a b ⌝ }
-    {
-        let r = result(&self.r, op, a, b);
-        match r {
-            Value::Done(v) => {
-                let at = d as usize;
-                if at < 16 {
-                    self.r[at] = v;
-                }
-                Stepped {
-                    file: self,
-                    fault: 0,
-                }
-            }
-            Value::Fault(n) => Stepped {
-                file: self,
-                fault: n,
-            },
-        }
-    }
-
-    fn divide(
-        mut self,
-        want: Wanted,
-        dlo: u8,
-        dhi: u8,
-        alo: u8,
-        ahi: u8,
-        blo: u8,
-        bhi: u8,
-    ) -> Stepped
-        ensures { λ s. ⌜ s ≡ ruleWide want self dlo dhi alo ahi blo bhi ⌝ }
-    {
-        let n = pair(&self.r, alo, ahi);
-        let d = pair(&self.r, blo, bhi);
-        if is_zero(d) {
-            return Stepped {
-                file: self,
-                fault: 3,
-            };
-        }
-        let w = super::alu::divide_wide(want, n, d);
-        let file = self.set_wide(dlo, dhi, w);
-        Stepped { file, fault: 0 }
-    }
-
-    // A word into a register.
-    fn put(mut self, d: u8, v: u64) -> Stepped
-        ensures { λ s. ⌜ s ≡ done (setReg self d v) ⌝ }
-    {
-        let file = self.set_reg(d, v);
-        Stepped { file, fault: 0 }
-    }
-
-    // What is no register operation.
-    fn no_operation(self) -> Stepped
-        ensures { λ s. ⌜ s ≡ refused self 50 ⌝ }
-    {
-        Stepped {
-            file: self,
-            fault: 50,
-        }
-    }
-
     // One instruction, if it is a register operation.
     pub fn step(mut self, i: Instr) -> Stepped
         ensures { λ s. ⌜ s ≡ stepOf i self ⌝ }
     {
-        match i {
-            Instr::Halt => self.no_operation(),
-            Instr::Nop => self.no_operation(),
-            Instr::Mov { d, a } => {
-                let v = read(&self.r, a);
-                self.put(d, v)
+        let o = operate(&self.r, i);
+        match o {
+            Outcome::Put(d, v) => {
+                let file = self.set_reg(d, v);
+                Stepped { file, fault: 0 }
             }
-            Instr::Ldi { d, imm } => self.put(d, imm),
-            Instr::Ldc { d: _, idx: _ } => self.no_operation(),
-            Instr::Add { d, a, b } => self.two(Op::Add, d, a, b),
-            Instr::Sub { d, a, b } => self.two(Op::Sub, d, a, b),
-            Instr::Mul { d, a, b } => self.two(Op::Mul, d, a, b),
-            Instr::Div { d, a, b } => self.two(Op::Div, d, a, b),
-            Instr::Rem { d, a, b } => self.two(Op::Rem, d, a, b),
-            Instr::AddW { d, a, b } => self.two(Op::AddW, d, a, b),
-            Instr::SubW { d, a, b } => self.two(Op::SubW, d, a, b),
-            Instr::MulW { d, a, b } => self.two(Op::MulW, d, a, b),
-            Instr::MulHi { d, a, b } => self.two(Op::MulHi, d, a, b),
-            Instr::DivW {
-                dlo,
-                dhi,
-                alo,
-                ahi,
-                blo,
-                bhi,
-            } => self.divide(Wanted::Quotient, dlo, dhi, alo, ahi, blo, bhi),
-            Instr::RemW {
-                dlo,
-                dhi,
-                alo,
-                ahi,
-                blo,
-                bhi,
-            } => self.divide(Wanted::Rest, dlo, dhi, alo, ahi, blo, bhi),
-            Instr::And { d, a, b } => self.two(Op::And, d, a, b),
-            Instr::Or { d, a, b } => self.two(Op::Or, d, a, b),
-            Instr::Xor { d, a, b } => self.two(Op::Xor, d, a, b),
-            Instr::Not { d, a } => {
-                let v = read(&self.r, a);
-                self.put(d, !v)
+            Outcome::PutWide(lo, hi, w) => {
+                let file = self.set_wide(lo, hi, w);
+                Stepped { file, fault: 0 }
             }
-            Instr::Shl { d, a, b } => self.two(Op::Shl, d, a, b),
-            Instr::Shr { d, a, b } => self.two(Op::Shr, d, a, b),
-            Instr::Eq { d, a, b } => self.two(Op::Eq, d, a, b),
-            Instr::LtU { d, a, b } => self.two(Op::LtU, d, a, b),
-            Instr::GtU { d, a, b } => self.two(Op::GtU, d, a, b),
-            Instr::Push { a: _ } => self.no_operation(),
-            Instr::Pop { d: _ } => self.no_operation(),
-            Instr::MLoad { d: _, a: _ } => self.no_operation(),
-            Instr::MStore { a: _, b: _ } => self.no_operation(),
-            Instr::Jmp { target: _ } => self.no_operation(),
-            Instr::Jz { a: _, target: _ } => self.no_operation(),
-            Instr::Jnz { a: _, target: _ } => self.no_operation(),
-            Instr::Call { target: _ } => self.no_operation(),
-            Instr::Ret => self.no_operation(),
-            Instr::SLoad { d: _, a: _ } => self.no_operation(),
-            Instr::SStore { a: _, b: _ } => self.no_operation(),
-            Instr::Send { a: _, b: _, c: _ } => self.no_operation(),
-            Instr::Emit { a: _, b: _, c: _ } => self.no_operation(),
-            Instr::Hash { a: _, b: _, c: _ } => self.no_operation(),
-            Instr::VerifyMl { a: _, b: _, c: _ } => self.no_operation(),
-            Instr::VerifySlh { a: _, b: _, c: _ } => self.no_operation(),
-            Instr::MerkleVerify { a: _, b: _, c: _ } => self.no_operation(),
-            Instr::Addr { a: _, b: _, c: _ } => self.no_operation(),
+            Outcome::Fault(n) => Stepped {
+                file: self,
+                fault: n,
+            },
         }
     }
 }

@@ -1,8 +1,8 @@
--- `RegFile::divide` meets its contract: the divisor is 0, or what is wanted of the division is put. Assumes nothing.
+-- `divide` meets its contract: the divisor is 0, or what is wanted of the division is put. Assumes nothing.
 use borrow.Author.Needs.{needs}
 use Rattle.state.specs.RegsLaws.{divide-zero, divide-done, not-zero}
-use Rattle.state.proofs.regs.RegFile.divide.Statement.{statement}
-use Rattle.state.proofs.regs.RegFile.divide.Tie as tie
+use Rattle.state.proofs.regs.divide.Statement.{statement}
+use Rattle.state.proofs.regs.divide.Tie as tie
 
 pair-requires : tie.Need-pair-requires
 pair-requires c κs = search needs
@@ -14,13 +14,10 @@ is-zero-requires : tie.Need-is-zero-requires
 is-zero-requires c κs = search needs
 
 returns : tie.Need-returns
-returns c = search (divide-zero, c .if1 .taken, c .before .is-zero .ensures, c .before .before .pair2 .ensures)
+returns c = search divide-zero
 
 divide-wide-requires : tie.Need-divide-wide-requires
-divide-wide-requires c κs = not-zero _ _ (c .before .is-zero .ensures) (c .if1 .left)
-
-set-wide-requires : tie.Need-set-wide-requires
-set-wide-requires c κs = search needs
+divide-wide-requires c κs = search not-zero
 
 returns-2 : tie.Need-returns-2
 returns-2 c = search divide-done
@@ -34,5 +31,4 @@ divide-spec =
     is-zero-requires
     returns
     divide-wide-requires
-    set-wide-requires
     returns-2)

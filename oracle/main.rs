@@ -1,9 +1,10 @@
-//! The QVM Rust as judge: `oracle codec|arith|verdict`, records on standard input, a line each on standard output.
+//! The QVM Rust as judge: `oracle codec|arith|verdict|stores`, records on standard input, a line each on standard output.
 
 mod arith;
 mod codec;
 mod input;
 mod reader;
+mod stores;
 mod verdict;
 
 use input::Input;
@@ -15,8 +16,9 @@ fn main() -> io::Result<()> {
         "codec" => codec::line,
         "arith" => arith::line,
         "verdict" => verdict::line,
+        "stores" => stores::line,
         _ => {
-            eprintln!("usage: oracle codec|arith|verdict");
+            eprintln!("usage: oracle codec|arith|verdict|stores");
             std::process::exit(2);
         }
     };

@@ -3,7 +3,7 @@
 set -eu
 cd "$(dirname "$0")/.."
 out=target/oracle
-mkdir -p "$out" crates/codec crates/arith crates/verdicts
+mkdir -p "$out" crates/codec crates/arith crates/verdicts crates/stores
 
 build() {
     rustc --edition 2021 -O -C panic=abort -L "$out" --out-dir "$out" "$@"
@@ -19,3 +19,4 @@ vectors() {
 vectors codec crates/codec/stdin crates/codec/stdout
 vectors arith crates/arith/stdin crates/arith/stdout
 vectors verdict crates/verdicts/stdin crates/verdicts/stdout
+vectors stores crates/stores/stdin crates/stores/stdout

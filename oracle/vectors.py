@@ -342,6 +342,23 @@ def verdict(source):
     yield from (big(2**31 + count, 4) for count in (65535, 65536, 65537))
 
 
+def stores(source):
+    """Keys that share all but their first, a middle or their last byte, in an order that fills both tables; then a log that fills."""
+    def record(op, key, value):
+        return bytes([op]) + key + big(value, 8)
+
+    keys = [bytes(32), b"\xff" * 32]
+    for place in (0, 15, 31):
+        keys += [with_byte(bytes(32), place, 1 + 5 * i) for i in range(20)]
+    for _ in range(2500):
+        key = keys[source.below(len(keys))]
+        yield record(source.below(4), key, source.below(WORD))
+    for _ in range(700):
+        key = keys[source.below(len(keys))]
+        yield record(4 + source.below(6), key, source.below(66) + (source.below(WORD // 66) * 66 if source.below(2) else 0))
+    yield record(9, bytes(32), 0)
+
+
 if __name__ == "__main__":
-    makers = {"codec": codec, "arith": arith, "verdict": verdict}
+    makers = {"codec": codec, "arith": arith, "verdict": verdict, "stores": stores}
     sys.stdout.buffer.write(b"".join(makers[sys.argv[1]](Source())))

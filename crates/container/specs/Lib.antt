@@ -6,3 +6,4 @@ pub mod Verify
 pub mod Offsets
 pub mod Answers
 pub mod Cases
+pub mod Writer

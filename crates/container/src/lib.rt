@@ -3,3 +3,4 @@ pub mod offsets;
 pub mod reader;
 pub mod starts;
 pub mod verify;
+pub mod writer;

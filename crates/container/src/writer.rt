@@ -1,0 +1,7 @@
+// Writing a container's canonical bytes.
+
+pub enum Written {
+    Done(usize),
+    BadList,
+    NoRoom,
+}

@@ -1,0 +1,5 @@
+pub mod Prices
+pub mod Meter
+pub mod Laws
+pub mod Theorems
+pub mod Cases

@@ -1,0 +1,12 @@
+pub mod Alu
+pub mod Regs
+pub mod Memory
+pub mod Stack
+pub mod Answers
+pub mod AluLaws
+pub mod RegsLaws
+pub mod MemoryLaws
+pub mod StackLaws
+pub mod RegsTheorems
+pub mod StackTheorems
+pub mod Cases

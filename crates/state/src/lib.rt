@@ -1,0 +1,5 @@
+// What an instruction works on: registers, memory and stack.
+pub mod alu;
+pub mod memory;
+pub mod regs;
+pub mod stack;

@@ -1,0 +1,3 @@
+pub mod Decimal
+pub mod DecimalLaws
+pub mod FieldLaws

@@ -7,3 +7,8 @@ pub mod Offsets
 pub mod Answers
 pub mod Cases
 pub mod Writer
+pub mod WriterParts
+pub mod WriterLaidLaws
+pub mod WriterLaws
+pub mod WriterSizeLaws
+pub mod WriterAnswerLaws

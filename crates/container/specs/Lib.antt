@@ -12,3 +12,5 @@ pub mod WriterLaidLaws
 pub mod WriterLaws
 pub mod WriterSizeLaws
 pub mod WriterAnswerLaws
+pub mod WriterWidthLaws
+pub mod WriterTheorems

@@ -1,15 +1,14 @@
 -- What the writer answers and leaves in the output, from what the code finds. Assumes nothing.
 use mathlib.Core.Path.{_≡_, refl, sym, ap, _∙_}
 use mathlib.Core.Bool.{Bool, true, false}
-use mathlib.Core.List.{List, _++_}
-use mathlib.Core.Option.{Option, some, none}
+use mathlib.Core.List.{List}
+use mathlib.Core.Option.{Option, some, none, Option·some-injective}
 use Prim.Native.Nat.{ℕ, _+_, _^_, _≤_, _<_}
 use native.Mathlib.Omega.{arith}
 use lib.Dec.{ltb}
-use lib.ListN.{length, take, drop}
+use lib.ListN.{length}
 use lib.Seq.{take-all}
-use borrow.Author.Tests.{le-ltb, lt-ltb, le-leb, lt-leb}
-use Rattle.words.specs.Choice.{pick}
+use borrow.Author.Tests.{ltb-true, ltb-false, le-ltb, lt-ltb, le-leb, lt-leb}
 use Rattle.container.specs.Container.{Entry, Container}
 use Rattle.container.specs.Canonical.{canonical}
 use Rattle.container.specs.Writer.{listed, withCode, toWrite, writtenOf, outputBy, outputOf}
@@ -46,6 +45,29 @@ module _ (code consts list : List ℕ) (h : length code < 2 ^ 32) (k : length co
   unfolding toWrite
   a-list s = rw (lt-ltb (length code) (2 ^ 32) h, lt-ltb (length consts) (2 ^ 32) k) (with-code code consts (listed list) s)
 
+-- and where there is one, it is that of the list
+pub record Sound (code consts list : List ℕ) (c : Container) : Type 0 where
+  pub short-code : length code < 2 ^ 32
+  pub short-consts : length consts < 2 ^ 32
+  pub lists : isSome (listed list) ≡ true
+  pub is : c ≡ containerOf code consts list
+
+pub sound : (code consts list : List ℕ) (c : Container) → toWrite code consts list ≡ some c → Sound code consts list c
+sound code consts list c e = by (ltb (length code) (2 ^ 32)) (ltb (length consts) (2 ^ 32)) (isSome (listed list)) refl refl refl
+  where
+    never : toWrite code consts list ≡ none → ⊥
+    never n = let z : none ≡ some c = sym n ∙ e in let w : _≡_ {A = ℕ} 0 1 = cc in omega arith
+
+    by : (x y z : Bool) → ltb (length code) (2 ^ 32) ≡ x → ltb (length consts) (2 ^ 32) ≡ y → isSome (listed list) ≡ z → Sound code consts list c
+    by false y z p q r = absurd (never (long-code code consts list (ltb-false (length code) (2 ^ 32) p)))
+    by true false z p q r = absurd (never (long-consts code consts list (ltb-true (length code) (2 ^ 32) p) (ltb-false (length consts) (2 ^ 32) q)))
+    by true true false p q r = absurd (never (no-list code consts list (ltb-true (length code) (2 ^ 32) p) (ltb-true (length consts) (2 ^ 32) q) r))
+    by true true true p q r =
+        let h = ltb-true (length code) (2 ^ 32) p in
+        let k = ltb-true (length consts) (2 ^ 32) q in
+        let s : some c ≡ some (containerOf code consts list) = sym e ∙ a-list code consts list h k r in
+        record { short-code = h; short-consts = k; lists = r; is = Option·some-injective c (containerOf code consts list) s }
+
 -- an answer with the output that goes with it
 abbrev pub Answers : Option Container → (out : List ℕ) → Written → List ℕ → Type 0
 Answers o out r e = (r ≡ writtenOf o out) × (e ≡ outputOf o out)
@@ -58,10 +80,14 @@ pub no-room : (o : Option Container) (out : List ℕ) (c : Container) → o ≡ 
 unfolding writtenOf outputOf outputBy
 no-room o out c e h = rw (e, lt-leb (length (canonical c)) (length out) h) (refl, refl)
 
+pub written-done : (o : Option Container) (out : List ℕ) (c : Container) → o ≡ some c → length (canonical c) ≤ length out → writtenOf o out ≡ Done (length (canonical c))
+unfolding writtenOf
+written-done o out c e h = rw (e, le-leb (length (canonical c)) (length out) h)
+
 pub done : (o : Option Container) (out v : List ℕ) (c : Container) (r : ℕ) → o ≡ some c → length (canonical c) ≤ length out → Laid out 0 (canonical c) v r → Answers o out (Done r) v
-unfolding writtenOf outputOf outputBy
+unfolding outputOf outputBy
 done o out v c r e h l =
+    let w = written-done o out c e h in
     let n : r ≡ length (canonical c) = omega (arith, l .stops) in
     let z : 0 + length (canonical c) ≡ length (canonical c) = omega arith in
-    rw (e, le-leb (length (canonical c)) (length out) h)
-    (ap Done n, l .is ∙ rw (z, take-all (length (canonical c)) (canonical c) (omega arith)))
+    (ap Done n ∙ sym w, rw (w, e) (l .is ∙ rw (z, take-all (length (canonical c)) (canonical c) (omega arith))))

@@ -3,20 +3,18 @@ use mathlib.Core.Path.{_≡_, refl, sym, ap, _∙_}
 use mathlib.Core.Bool.{Bool, true, false}
 use mathlib.Core.List.{List, [], _∷_, _++_}
 use mathlib.Core.Option.{Option, some, none}
-use Prim.Native.Nat.{ℕ, zero, suc, _+_, _*_, _-_, _^_, _≤_, _<_}
+use Prim.Native.Nat.{ℕ, zero, suc, _+_, _-_, _^_, _≤_, _<_}
 use native.Mathlib.Omega.{arith}
 use native.Mathlib.Numerals.{add-one}
 use lib.Dec.{ltb, leb, eqb}
-use lib.ListN.{length, take, drop, getD, length-append, length-drop, drop-of-length-le}
+use lib.ListN.{length, take, drop, length-drop, drop-of-length-le}
 use lib.Seq.{drop-cons, drop-drop, getD-take, length-take-le}
 use borrow.Author.Tests.{ltb-true, leb-true, eqb-true, eqb-false, le-ltb, lt-ltb, le-leb, lt-leb, eq-eqb, ne-eqb}
 use Rattle.words.specs.Choice.{pick, both}
-use Rattle.words.specs.Bytes.{beBytes}
-use Rattle.words.specs.BytesLaws.{length-beBytes}
-use Rattle.container.specs.Container.{Entry, Container}
-use Rattle.container.specs.Canonical.{tag, wordBytes, countedBytes, entryBytes, entriesBytes, canonical}
+use Rattle.container.specs.Container.{Entry}
+use Rattle.container.specs.Canonical.{entryBytes, entriesBytes}
 use Rattle.container.specs.Writer.{allShort, at, slotsIn, beginsEntry, entryIn, withEntry, nothingLeft, entriesIn, listed}
-use Rattle.container.specs.WriterParts.{Begins, isSome, orEmpty, containerOf}
+use Rattle.container.specs.WriterParts.{Begins, isSome, orEmpty}
 
 both-left : (a b : Bool) → both a b ≡ true → a ≡ true
 both-left true b e = refl

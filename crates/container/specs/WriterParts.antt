@@ -20,6 +20,7 @@ pub record Begins (xs : List ℕ) : Type 0 where
   pub short : allShort (take 6 xs) ≡ true
   pub whole : 6 + slotsIn xs ≤ length xs
 
+-- whether there is one
 abbrev pub isSome : {A : Type 0} → Option A → Bool
 isSome none = false
 isSome (some a) = true

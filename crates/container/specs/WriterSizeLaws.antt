@@ -12,7 +12,7 @@ use Rattle.words.specs.BytesLaws.{length-beBytes}
 use Rattle.container.specs.Container.{Entry, Container}
 use Rattle.container.specs.Canonical.{tag, wordBytes, countedBytes, entryBytes, entriesBytes, canonical}
 use Rattle.container.specs.Verify.{slotCount}
-use Rattle.container.specs.Writer.{at, slotsIn, beginsEntry, entryIn, nothingLeft, entriesIn, listed}
+use Rattle.container.specs.Writer.{at, slotsIn, entryIn, entriesIn, listed}
 use Rattle.container.specs.WriterParts.{Begins, isSome, orEmpty, containerOf}
 use Rattle.container.specs.WriterLaws.{begins, afterEntry, more, is-end, none-left, listed-so}
 

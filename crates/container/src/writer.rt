@@ -14,7 +14,7 @@ pub enum Written {
     NoRoom,
 }
 
-// What four bytes cannot count any more.
+// The first number that four bytes do not hold.
 const FOUR_BYTES: u64 = 0x1_0000_0000;
 
 // QVM1
@@ -89,6 +89,7 @@ fn put_number(out: &mut [u8], at: usize, w: usize, v: u64) -> usize
     at + w
 }
 
+// Bytes at a place, and where they end; so do the writers below.
 fn put_bytes(out: &mut [u8], at: usize, src: &[u8]) -> usize
     requires { ⌜ at + length (now src) ≤ length (now out) ⌝ }
     ensures { λ r. ⌜ Laid (now (out .entry)) at (now (src .entry)) (now (out .exit)) r ⌝ }

@@ -1,5 +1,4 @@
 -- `put` meets its contract: after each piece the next ones are left to lay down. Assumes nothing.
-use mathlib.Core.Path.{_≡_, sym}
 use mathlib.Core.List.{List, _++_}
 use Prim.Native.Nat.{ℕ}
 use native.Mathlib.Omega.{arith}

@@ -1,5 +1,5 @@
 -- `put_entries` meets its contract. The loop's invariant: what is left of the list are entries, and their bytes are left to lay down. Assumes nothing.
-use mathlib.Core.Path.{_≡_, sym, ap, _∙_}
+use mathlib.Core.Path.{_≡_, ap, _∙_}
 use mathlib.Core.Bool.{true}
 use mathlib.Core.List.{List, _++_}
 use Prim.Native.Nat.{ℕ, _-_, _≤_}

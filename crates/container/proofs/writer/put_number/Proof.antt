@@ -1,5 +1,4 @@
 -- `put_number` meets its contract. Assumes nothing.
-use native.Mathlib.Omega.{arith}
 use denote.Ref.{now}
 use borrow.Author.Needs.{needs}
 use Rattle.container.specs.WriterLaidLaws.{laid-number}

@@ -1,5 +1,4 @@
 -- `put_words` meets its contract. The loop's invariant: the words from the i-th on are left to lay down. Assumes nothing.
-use mathlib.Core.Path.{_≡_, refl, sym, ap, _∙_}
 use mathlib.Core.List.{List, _++_}
 use Prim.Native.Nat.{ℕ, _+_, _-_}
 use native.Mathlib.Omega.{arith}

@@ -2,7 +2,7 @@
 use mathlib.Core.Path.{_≡_, sym, _∙_}
 use mathlib.Core.Bool.{true}
 use mathlib.Core.Option.{Option, some}
-use Prim.Native.Nat.{ℕ, _+_, _*_}
+use Prim.Native.Nat.{_+_, _*_}
 use native.Mathlib.Omega.{arith}
 use denote.Ref.{now}
 use lib.ListN.{length}
@@ -13,7 +13,7 @@ use Rattle.container.specs.Canonical.{canonical}
 use Rattle.container.specs.Writer.{at, listed, toWrite}
 use Rattle.container.specs.WriterParts.{isSome, containerOf}
 use Rattle.container.specs.WriterLaws.{Listed, listed-so}
-use Rattle.container.specs.WriterSizeLaws.{listed-size}
+use Rattle.container.specs.WriterSizeLaws.{length-canonical, listed-size}
 use Rattle.container.specs.WriterAnswerLaws.{long-code, long-consts, no-list, a-list, refused, no-room, done}
 use Rattle.container.proofs.writer.write.Statement.{statement}
 use Rattle.container.proofs.writer.write.Tie as tie
@@ -80,7 +80,7 @@ mul-size-3 : tie.Need-mul-size-3
 mul-size-3 c = omega (arith, a-count (c .before) .small)
 
 sub-size : tie.Need-sub-size
-sub-size c = omega (arith, size (c .before))
+sub-size c = omega (arith, size (c .before), length-canonical (whole (start′ (c .before))))
 
 returns-4 : tie.Need-returns-4
 returns-4 c =

@@ -11,6 +11,8 @@ use Rattle.container.specs.declared.verify.Verified.{Verified}
 use Rattle.container.specs.declared.verify.Verified.the-variants as verified
 use Rattle.container.specs.declared.offsets.Offset.{Offset}
 use Rattle.container.specs.declared.offsets.Offset.the-variants as offset
+use Rattle.container.specs.declared.writer.Written.{Written}
+use Rattle.container.specs.declared.writer.Written.the-variants as written
 
 abbrev pub readError : ReadError → Answer
 readError reader.BadTag = answer 41 0
@@ -43,3 +45,9 @@ abbrev pub offsetAnswer : Offset → Answer
 offsetAnswer (offset.At place) = answer 0 place
 offsetAnswer offset.UnknownSelector = answer 9 0
 offsetAnswer (offset.Unreadable e) = readError e
+
+-- done is 0, with the length written
+abbrev pub writtenAnswer : Written → Answer
+writtenAnswer (written.Done length) = answer 0 length
+writtenAnswer written.BadList = answer 49 0
+writtenAnswer written.NoRoom = answer 48 0

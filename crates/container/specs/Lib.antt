@@ -19,3 +19,11 @@ pub mod Offsets
 pub mod OffsetLaws
 pub mod Answers
 pub mod Cases
+pub mod Writer
+pub mod WriterParts
+pub mod WriterLaidLaws
+pub mod WriterLaws
+pub mod WriterSizeLaws
+pub mod WriterAnswerLaws
+pub mod WriterWidthLaws
+pub mod WriterTheorems

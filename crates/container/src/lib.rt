@@ -6,3 +6,4 @@ pub mod reader;
 pub mod scan;
 pub mod starts;
 pub mod verify;
+pub mod writer;

@@ -14,6 +14,8 @@ pub mod StartLaws
 pub mod SweepLaws
 pub mod MarkLaws
 pub mod ScanLaws
+pub mod Targets
+pub mod TargetLaws
 pub mod Verify
 pub mod Offsets
 pub mod OffsetLaws

@@ -5,4 +5,5 @@ pub mod offsets;
 pub mod reader;
 pub mod scan;
 pub mod starts;
+pub mod targets;
 pub mod verify;

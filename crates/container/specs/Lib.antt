@@ -17,6 +17,8 @@ pub mod ScanLaws
 pub mod Targets
 pub mod TargetLaws
 pub mod Verify
+pub mod Checks
+pub mod CheckLaws
 pub mod Offsets
 pub mod OffsetLaws
 pub mod Answers

@@ -1,4 +1,5 @@
 // Containers: reading, writing and checking them.
+pub mod checks;
 pub mod entries;
 pub mod marks;
 pub mod offsets;

@@ -15,6 +15,12 @@ pub enum VerifyError {
     AccessListTooLarge(u64),
 }
 
+// Whether a check passed.
+pub enum Check {
+    Passed,
+    Failed(VerifyError),
+}
+
 pub enum Verified {
     Valid(Layout),
     Unreadable(ReadError),

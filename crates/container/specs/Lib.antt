@@ -19,6 +19,8 @@ pub mod TargetLaws
 pub mod Verify
 pub mod Checks
 pub mod CheckLaws
+pub mod WalkLaws
+pub mod VerifyLaws
 pub mod Offsets
 pub mod OffsetLaws
 pub mod Answers

@@ -14,7 +14,13 @@ pub mod StartLaws
 pub mod SweepLaws
 pub mod MarkLaws
 pub mod ScanLaws
+pub mod Targets
+pub mod TargetLaws
 pub mod Verify
+pub mod Checks
+pub mod CheckLaws
+pub mod WalkLaws
+pub mod VerifyLaws
 pub mod Offsets
 pub mod OffsetLaws
 pub mod Answers

@@ -2,6 +2,7 @@
 ghost use mathlib.Core.Path.{_≡_};
 ghost use lib.ListN.{drop};
 ghost use Rattle.container.specs.Reader.{container, whole, readOf, readingOf};
+ghost use Rattle.container.specs.Answers.{readError};
 use super::entries::CountedRead;
 use super::entries::End;
 
@@ -27,6 +28,28 @@ pub enum ReadError {
 pub enum Reading {
     Done(Layout),
     Refused(ReadError),
+}
+
+impl ReadError {
+    pub fn number(self) -> u64
+        ensures { λ r. ⌜ r ≡ readError self .number ⌝ }
+    {
+        match self {
+            ReadError::BadTag => 41,
+            ReadError::Short => 42,
+            ReadError::Trailing => 43,
+        }
+    }
+
+    pub fn argument(self) -> u64
+        ensures { λ r. ⌜ r ≡ readError self .argument ⌝ }
+    {
+        match self {
+            ReadError::BadTag => 0,
+            ReadError::Short => 0,
+            ReadError::Trailing => 0,
+        }
+    }
 }
 
 // What stands after the tag.

@@ -2,9 +2,9 @@
 ghost use mathlib.Core.Path.{_≡_};
 ghost use Rattle.container.specs.Starts.{refersTo, walkOf};
 ghost use Rattle.container.specs.Marks.{Marks, indexOf};
-use super::starts::Stands;
 use super::starts::Refers;
 use super::starts::Scan;
+use super::starts::Stands;
 use isa::codec::Decoded;
 use isa::instr::Instr;
 

@@ -1,0 +1,58 @@
+-- `check_code` meets its contract: how the reading ended, and with its end what the map holds. Assumes nothing.
+use mathlib.Core.Path.{sym, _∙_}
+use native.Mathlib.Omega.{arith}
+use borrow.Author.Needs.{needs}
+use Rattle.container.specs.Verify.{codeRefusal}
+use Rattle.container.specs.Checks.{checkOf}
+use Rattle.container.specs.VerifyLaws.{code-stopped, code-held}
+use Rattle.container.proofs.verify.check_code.Statement.{statement}
+use Rattle.container.proofs.verify.check_code.Tie as tie
+
+slice-aggregate-scan : tie.Need-slice-aggregate-scan
+slice-aggregate-scan c = search needs
+
+scan-requires : tie.Need-scan-requires
+scan-requires c κs = search needs
+
+enum-known-r : tie.Need-enum-known-r
+enum-known-r c = search needs
+
+enum-known-r-2 : tie.Need-enum-known-r-2
+enum-known-r-2 c = search needs
+
+enum-told : tie.Need-enum-told
+enum-told c = search needs
+
+slice-aggregate-check-rest : tie.Need-slice-aggregate-check-rest
+slice-aggregate-check-rest c = search needs
+
+check-rest-requires : tie.Need-check-rest-requires
+check-rest-requires c κs = search needs
+
+returns : tie.Need-returns
+unfolding codeRefusal checkOf
+returns c = λ x a h. code-stopped _ _ _ x a _ (sym (c .before .r .given .1) ∙ c .before .before .before .before .scan .ensures .0)
+
+returns-2 : tie.Need-returns-2
+unfolding codeRefusal checkOf
+returns-2 c = λ x a h. code-stopped _ _ _ x a _ (sym (c .before .r2 .given .1) ∙ c .before .before .before .before .scan .ensures .0)
+
+returns-3 : tie.Need-returns-3
+returns-3 c =
+    λ x a h. c .check-rest .ensures x _ a (code-held _ _ _ x a 8192 _ (omega arith) (c .before .before .before .before .before .scan .ensures .1))
+    ∙ code-stopped _ _ _ x a _ (sym (c .before .before .enum-told .given .1) ∙ c .before .before .before .before .before .scan .ensures .0)
+
+pub check-code-spec : {M : Type 1} → statement M
+check-code-spec =
+    tie.close
+    (tie.spec
+    slice-aggregate-scan
+    scan-requires
+    enum-known-r
+    enum-known-r-2
+    enum-told
+    slice-aggregate-check-rest
+    check-rest-requires
+    returns
+    returns-2
+    returns-3)

@@ -5,6 +5,13 @@ pub fn text(s: &[u8]) {
     io::write_all(STDOUT_FILENO, s);
 }
 
+// The first n bytes of a text that has them.
+pub fn front(s: &[u8], n: usize) {
+    if n <= s.len() {
+        text(&s[..n]);
+    }
+}
+
 // A space and a number.
 pub fn number(n: u64) {
     text(b" ");

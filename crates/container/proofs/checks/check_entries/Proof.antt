@@ -1,5 +1,5 @@
 -- `check_entries` meets its contract. The loop's invariant: after those seen, the entries ahead decide. Assumes nothing.
-use mathlib.Core.Path.{_≡_, sym, _∙_}
+use mathlib.Core.Path.{sym, _∙_}
 use Prim.Native.Nat.{_-_}
 use native.Mathlib.Omega.{arith}
 use denote.Ref.{now}

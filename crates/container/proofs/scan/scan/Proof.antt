@@ -1,6 +1,5 @@
 -- `scan` meets its contract. The loop's invariant: what is left of the code decides, and completes the map. Assumes nothing.
 use mathlib.Core.Path.{_≡_, sym, ap, _∙_}
-use mathlib.Core.List.{List}
 use Prim.Native.Nat.{ℕ, _-_}
 use native.Mathlib.Omega.{arith}
 use denote.Ref.{now}
@@ -12,7 +11,7 @@ use Rattle.isa.specs.declared.codec.Decoded.the-variants.{Done}
 use Rattle.container.specs.declared.starts.Refers.{Refers}
 use Rattle.container.specs.Starts.{refersTo, ended, met}
 use Rattle.container.specs.Marks.{indexOf}
-use Rattle.container.specs.ScanLaws.{Scanning, scan-begins, scan-end, scan-refused, scan-bad, scan-on, length-mark}
+use Rattle.container.specs.ScanLaws.{Scanning, scan-begins, scan-end, scan-refused, scan-bad, scan-on}
 use Rattle.container.proofs.scan.scan.Statement.{statement}
 use Rattle.container.proofs.scan.scan.Tie as tie
 

@@ -1,3 +1,6 @@
 // What a run knows of a key: its value, its rights, whether it paid as fresh. Sorted tables in lent bytes stand behind it.
+pub mod counts;
 pub mod look;
+pub mod rights;
+pub mod room;
 pub mod slots;

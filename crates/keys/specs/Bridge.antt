@@ -3,7 +3,8 @@ use mathlib.Core.Path.{_≡_}
 use mathlib.Core.Bool.{Bool, true, false}
 use mathlib.Core.List.{List}
 use mathlib.Core.Option.{Option, some, none}
-use Prim.Native.Nat.{ℕ, _-_, _*_, _≤_}
+use Prim.Native.Nat.{ℕ, _-_, _*_}
+use lib.Dec.{leb}
 use lib.ListN.{length, drop, replicate}
 use Rattle.tables.specs.Rows.{Row, rows}
 use Rattle.tables.specs.Table.{Table}
@@ -88,9 +89,9 @@ pub record Good (c : Counts) (b : Bufs) : Type 0 where
   pub may-write : Held 32 (c .writes) (b .may-write)
   pub paid : Held 32 (c .paid) (b .paid)
 
--- a row put in, if so told, leaves the rows within the bytes
-abbrev pub Fits : (w n : ℕ) → Bool → Row → List ℕ → Type 0
-Fits w n b x t = length (putIf b x (rows w n t)) * w ≤ length t
+-- whether the rows, with a row put in if so told, stay within the bytes
+abbrev pub holds : (w n : ℕ) → Bool → Row → List ℕ → Bool
+holds w n b x t = leb (length (putIf b x (rows w n t)) * w) (length t)
 
 -- the rows that are counted, or n if none was put in
 abbrev pub countOr : ℕ → Stored → ℕ

@@ -3,6 +3,8 @@ pub mod Values
 pub mod Steps
 pub mod Slots
 pub mod Bridge
+pub mod StorePlans
 pub mod SlotLaws
 pub mod LookLaws
 pub mod RoomLaws
+pub mod StoreLaws

@@ -18,7 +18,7 @@ use Rattle.tables.specs.TableTheorems.{inserted-table}
 use Rattle.tables.specs.declared.store.Stored.{Stored}
 use Rattle.tables.specs.declared.store.Stored.the-variants.{Count}
 use Rattle.keys.specs.Values.{putIf}
-use Rattle.keys.specs.Bridge.{Held, Fits, Put, countOr}
+use Rattle.keys.specs.Bridge.{Held, Put, holds, countOr}
 
 -- ---- room for a key
 
@@ -28,7 +28,7 @@ module _ (w n : ℕ) (t : List ℕ) (tb : Table w n t) where
   table-fits = rw (rows-length w n t) (le-leb (n * w) (length t) (tb .fits))
 
   module _ (b : Bool) (x : Row) where
-    pub room-off : b ≡ false → true ≡ leb (length (putIf b x (rows w n t)) * w) (length t)
+    pub room-off : b ≡ false → true ≡ holds w n b x t
     room-off e = rw e (sym table-fits)
 
     -- there is one row more exactly when the key is new
@@ -39,7 +39,7 @@ module _ (w n : ℕ) (t : List ℕ) (tb : Table w n t) where
     unfolding more
     one-more = omega (arith, suc-mul n w)
 
-    pub room-free : b ≡ true → w ≤ length t - n * w → true ≡ leb (length (putIf b x (rows w n t)) * w) (length t)
+    pub room-free : b ≡ true → w ≤ length t - n * w → true ≡ holds w n b x t
     unfolding more
     room-free e h = rw (e, length-insert x (rows w n t), rows-length w n t) (go (isSome (lookup (x .key) (rows w n t))))
       where
@@ -47,7 +47,7 @@ module _ (w n : ℕ) (t : List ℕ) (tb : Table w n t) where
         go false = sym (le-leb (more false) (length t) (omega (arith, one-more, tb .fits)))
         go true = rw add-zero (sym (le-leb (n * w) (length t) (tb .fits)))
 
-    pub room-else : b ≡ true → length t - n * w < w → isSome (lookup (x .key) (rows w n t)) ≡ leb (length (putIf b x (rows w n t)) * w) (length t)
+    pub room-else : b ≡ true → length t - n * w < w → isSome (lookup (x .key) (rows w n t)) ≡ holds w n b x t
     unfolding more
     room-else e h = rw (e, length-insert x (rows w n t), rows-length w n t) (go (isSome (lookup (x .key) (rows w n t))))
       where
@@ -61,10 +61,10 @@ module _ (w n : ℕ) (t : List ℕ) (tb : Table w n t) (b : Bool) (x : Row) wher
   pub put-off : b ≡ false → Put w n n b x t t
   put-off e = rw e (record { table = tb; are = refl; size = refl; rest = refl })
 
-  module _ (u : List ℕ) (r : Stored) (lu : length u ≡ length t) (a : Inserted w n x t u r) (on : b ≡ true) (fit : Fits w n b x t) where
+  module _ (u : List ℕ) (r : Stored) (lu : length u ≡ length t) (a : Inserted w n x t u r) (on : b ≡ true) (fit : holds w n b x t ≡ true) where
     counted : r ≡ Count (length (insert x (rows w n t)))
     unfolding storedOf
-    counted = let f : length (insert x (rows w n t)) * w ≤ length t = rw on at fit in rw (le-leb _ (length t) f) at (a .answer)
+    counted = let f : holds w n true x t ≡ true = rw on at fit in rw f at (a .answer)
 
     pub put-on : (m : ℕ) → m ≡ countOr n r → Put w n m b x t u
     put-on m e =

@@ -4,3 +4,4 @@ pub mod look;
 pub mod rights;
 pub mod room;
 pub mod slots;
+pub mod store;

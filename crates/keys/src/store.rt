@@ -10,7 +10,8 @@ ghost use Rattle.keys.specs.Bridge.{Given, bufs, given, Loader};
 ghost use Rattle.keys.specs.StorePlans.{storeFits, StoreReady, PlansStore, Stores};
 ghost use Rattle.keys.specs.declared.look.Lent.{Lent};
 use crate::counts::Counts;
-use crate::look::{Lent, Look};
+use crate::look::Lent;
+use crate::look::Look;
 
 // What a store comes to: the value before, whether it pays as fresh, its price beyond the base price, and whether all of it has room.
 pub struct StorePlan {

@@ -37,9 +37,9 @@ returns c =
     let look = dirty .before .before .before in
     let a = S look .args in
     λ rd wr kr kw mr ok.
-        planned (a .lent) (given rd wr kr kw (a .store .now) (a .loader .now)) (a .c) (bufs (a .changes .now) (a .fetched .now) mr (a .writable .now) (a .paid .now)) ok (num (a .key .now)) (a .v)
-        _ _ _ _ _ _ _ (look .look-up .ensures) (dirty .before .before .has .ensures) (dirty .before .has2 .ensures) (dirty .has3 .ensures)
-        (price .before .pays-fresh .ensures) (price .store-price .ensures) (c .store-room .ensures (a .v))
+    planned (a .lent) (given rd wr kr kw (a .store .now) (a .loader .now)) (a .c) (bufs (a .changes .now) (a .fetched .now) mr (a .writable .now) (a .paid .now)) ok (num (a .key .now)) (a .v)
+    _ _ _ _ _ _ _ (look .look-up .ensures) (dirty .before .before .has .ensures) (dirty .before .has2 .ensures) (dirty .has3 .ensures)
+    (price .before .pays-fresh .ensures) (price .store-price .ensures) (c .store-room .ensures (a .v))
 
 pub plan-store-spec : {M : Type 1} → statement M
 plan-store-spec =

@@ -34,8 +34,8 @@ returns c =
     let changes = fetched .before .before .before .before in
     let a = S changes .args in
     λ l g mr mw ok q.
-        stored-so l g (a .c) (bufs (a .changes .now) (a .fetched .now) mr mw (a .paid .now)) ok (num (a .key .now)) (a .v) (a .plan) q
-        _ _ _ _ _ _ (changes .put-if .ensures) (fetched .put-if2 .ensures) (paid .add-if .ensures)
+    stored-so l g (a .c) (bufs (a .changes .now) (a .fetched .now) mr mw (a .paid .now)) ok (num (a .key .now)) (a .v) (a .plan) q
+    _ _ _ _ _ _ (changes .put-if .ensures) (fetched .put-if2 .ensures) (paid .add-if .ensures)
 
 pub store-spec : {M : Type 1} → statement M
 store-spec = tie.close (tie.spec put-if-requires put-if-requires-2 add-if-requires same-length same-length-2 same-length-3 returns)

@@ -5,18 +5,6 @@ use Rattle.keys.specs.RoomLaws.{put-off, put-on}
 use Rattle.keys.proofs.room.put_if.Statement.{statement}
 use Rattle.keys.proofs.room.put_if.Tie as tie
 
-returns : tie.Need-returns
-returns c = put-off _ _ _ (c .before .before .before .pre .0) _ _ (not-true _ (c .if1 .taken))
-
-put-requires : tie.Need-put-requires
-put-requires c κs = search needs
-
-counted-requires : tie.Need-counted-requires
-counted-requires c κs = search needs
-
-same-length : tie.Need-same-length
-same-length c = search needs
-
 returns-2 : tie.Need-returns-2
 returns-2 c =
     let p = c .before .before .before in
@@ -25,4 +13,11 @@ returns-2 c =
     put-on _ _ _ (s .pre .0) _ _ _ _ (p .put .kept .0) (p .put .ensures) (not-false _ (i .if1 .left)) (s .pre .2) _ (c .counted .ensures)
 
 pub put-if-spec : {M : Type 1} → statement M
-put-if-spec = tie.close (tie.spec returns put-requires counted-requires same-length returns-2)
+put-if-spec =
+    tie.close
+    (tie.spec
+    (λ c. put-off _ _ _ (c .before .before .before .pre .0) _ _ (not-true _ (c .if1 .taken)))
+    (λ c κs. search needs)
+    (λ c κs. search needs)
+    (λ c. search needs)
+    returns-2)

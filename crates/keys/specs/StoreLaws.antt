@@ -31,10 +31,10 @@ module _ (l : Lent) (g : Given) (c : Counts) (b : Bufs) (ok : Good c b) (k v : �
   room-is seen fresh q f = rw (q, f, table-fits 32 (c .reads) (b .may-read) (ok .may-read .table), table-fits 32 (c .writes) (b .may-write) (ok .may-write .table))
 
   -- the parts of a plan
-  module _ (seen : Look) (old auth dirty fresh room : Bool) (price : ℕ)
+  module _ (seen : Look) (fresh room : Bool) (price : ℕ)
       (qs : seen ≡ lookIn (rows 40 (c .changes) (b .changes)) (rows 40 (l .store) (g .store)) (rows 40 (c .fetched) (b .fetched)) (loaderOf (l .present) (rows 40 (l .loader) (g .loader))) k)
-      (qo : old ≡ has k (rows 32 (c .paid) (b .paid))) (qa : auth ≡ has k (rows 32 (c .writes) (b .may-write))) (qd : dirty ≡ has k (rows 40 (c .changes) (b .changes)))
-      (qf : fresh ≡ paysFresh v (seen .value) old auth (c .changes)) (qp : price ≡ storePrice fresh dirty (c .changes))
+      (qf : fresh ≡ paysFresh v (seen .value) (has k (rows 32 (c .paid) (b .paid))) (has k (rows 32 (c .writes) (b .may-write))) (c .changes))
+      (qp : price ≡ storePrice fresh (has k (rows 40 (c .changes) (b .changes))) (c .changes))
       (qr : room ≡ storeFits c k v seen fresh (b .changes) (b .fetched) (b .paid)) where
     look-is : look e s k ≡ seen
     unfolding look
@@ -42,11 +42,11 @@ module _ (l : Lent) (g : Given) (c : Counts) (b : Bufs) (ok : Good c b) (k v : �
 
     fresh-is : freshAt e s k v ≡ fresh
     unfolding freshAt
-    fresh-is = rw (look-is, rows-length 40 (c .changes) (b .changes), ← qo, ← qa) (sym qf)
+    fresh-is = rw (look-is, rows-length 40 (c .changes) (b .changes)) (sym qf)
 
     price-is : storePriceAt e s k v ≡ price
     unfolding storePriceAt
-    price-is = rw (fresh-is, rows-length 40 (c .changes) (b .changes), ← qd) (sym qp)
+    price-is = rw (fresh-is, rows-length 40 (c .changes) (b .changes)) (sym qp)
 
     pub planned : record { look = seen; fresh = fresh; price = price; room = room } ≡ storePlan (roomsOf b) e s k v
     unfolding storePlan

@@ -4,7 +4,9 @@ ghost use mathlib.Core.List.{List};
 ghost use Prim.Native.Nat.{ℕ};
 ghost use lib.ListN.{length};
 ghost use Rattle.words.specs.Bytes.{num};
+ghost use Rattle.tables.specs.Rows.{rows};
 ghost use Rattle.tables.specs.Table.{Table};
+ghost use Rattle.keys.specs.Values.{has};
 ghost use Rattle.keys.specs.Steps.{paysFresh, storePrice};
 ghost use Rattle.keys.specs.Bridge.{Given, bufs, given, Loader};
 ghost use Rattle.keys.specs.StorePlans.{storeFits, StoreReady, PlansStore, Stores};
@@ -21,9 +23,10 @@ pub struct StorePlan {
     pub room: bool,
 }
 
-// Whether a store of v over prior pays as fresh, with n keys dirty.
-fn pays_fresh(v: u64, prior: u64, paid: bool, authorised: bool, n: usize) -> bool
-    ensures { λ r. ⌜ r ≡ paysFresh v prior paid authorised n ⌝ }
+// Whether a store of v over prior pays as fresh. The tables are searched only where the values leave it open.
+fn pays_fresh(c: Counts, writable: &[u8], paid: &[u8], key: &[u8], v: u64, prior: u64) -> bool
+    requires { ⌜ Table 32 (c .writes) (now writable) × Table 32 (c .paid) (now paid) × (length (now key) ≡ 32) ⌝ }
+    ensures { λ r. ⌜ r ≡ paysFresh v prior (has (num (now (key .entry))) (rows 32 (c .paid) (now (paid .entry)))) (has (num (now (key .entry))) (rows 32 (c .writes) (now (writable .entry)))) (c .changes) ⌝ }
 {
     if v == 0 {
         return false;
@@ -31,29 +34,30 @@ fn pays_fresh(v: u64, prior: u64, paid: bool, authorised: bool, n: usize) -> boo
     if prior != 0 {
         return false;
     }
-    if paid {
+    if tables::rows::has(paid, c.paid, 32, key) {
         return false;
     }
-    if authorised {
+    if tables::rows::has(writable, c.writes, 32, key) {
         return true;
     }
-    8 <= n
+    8 <= c.changes
 }
 
 // What a store costs beyond its base price, with n keys dirty.
-fn store_price(fresh: bool, dirty: bool, n: usize) -> u64
-    ensures { λ r. ⌜ r ≡ storePrice fresh dirty n ⌝ }
+fn store_price(fresh: bool, changes: &[u8], n: usize, key: &[u8]) -> u64
+    requires { ⌜ Table 40 n (now changes) × (length (now key) ≡ 32) ⌝ }
+    ensures { λ r. ⌜ r ≡ storePrice fresh (has (num (now (key .entry))) (rows 40 n (now (changes .entry)))) n ⌝ }
 {
     if fresh {
         return 227000;
     }
-    if dirty {
+    if n < 8 {
         return 0;
     }
-    if 8 <= n {
-        return 227000;
+    if tables::rows::has(changes, n, 40, key) {
+        return 0;
     }
-    0
+    227000
 }
 
 // Whether the key, the fetched value if it came, and the key as paid if fresh, all have room.
@@ -104,11 +108,8 @@ pub fn plan_store(
         c.fetched,
         key,
     );
-    let old = tables::rows::has(paid, c.paid, 32, key);
-    let authorised = tables::rows::has(writable, c.writes, 32, key);
-    let dirty = tables::rows::has(changes, c.changes, 40, key);
-    let fresh = pays_fresh(v, l.value, old, authorised, c.changes);
-    let price = store_price(fresh, dirty, c.changes);
+    let fresh = pays_fresh(c, writable, paid, key, v, l.value);
+    let price = store_price(fresh, changes, c.changes, key);
     let room = store_room(c, changes, fetched, paid, key, l, fresh);
     StorePlan {
         look: l,

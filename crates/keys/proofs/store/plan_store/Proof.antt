@@ -12,15 +12,6 @@ S c = c .before .before .before .before .before .before .before .before
 look-up-requires : tie.Need-look-up-requires
 look-up-requires c κs = search needs
 
-has-requires : tie.Need-has-requires
-has-requires c κs = search needs
-
-has-requires-2 : tie.Need-has-requires-2
-has-requires-2 c κs = search needs
-
-has-requires-3 : tie.Need-has-requires-3
-has-requires-3 c κs = search needs
-
 pays-fresh-requires : tie.Need-pays-fresh-requires
 pays-fresh-requires c κs = search needs
 
@@ -33,22 +24,18 @@ store-room-requires c κs = search needs
 returns : tie.Need-returns
 returns c =
     let price = c .before in
-    let dirty = price .before .before in
-    let look = dirty .before .before .before in
+    let fresh = price .before in
+    let look = fresh .before in
     let a = S look .args in
     λ rd wr kr kw mr ok.
     planned (a .lent) (given rd wr kr kw (a .store .now) (a .loader .now)) (a .c) (bufs (a .changes .now) (a .fetched .now) mr (a .writable .now) (a .paid .now)) ok (num (a .key .now)) (a .v)
-    _ _ _ _ _ _ _ (look .look-up .ensures) (dirty .before .before .has .ensures) (dirty .before .has2 .ensures) (dirty .has3 .ensures)
-    (price .before .pays-fresh .ensures) (price .store-price .ensures) (c .store-room .ensures (a .v))
+    _ _ _ _ (look .look-up .ensures) (fresh .pays-fresh .ensures) (price .store-price .ensures) (c .store-room .ensures (a .v))
 
 pub plan-store-spec : {M : Type 1} → statement M
 plan-store-spec =
     tie.close
     (tie.spec
     look-up-requires
-    has-requires
-    has-requires-2
-    has-requires-3
     pays-fresh-requires
     store-price-requires
     store-room-requires

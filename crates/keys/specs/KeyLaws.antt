@@ -3,7 +3,7 @@ use mathlib.Core.Path.{_≡_, sym, ap, _∙_}
 use mathlib.Core.Bool.{Bool, true}
 use mathlib.Core.List.{List}
 use Prim.Native.Nat.{ℕ}
-use Rattle.words.specs.Choice.{both, either}
+use Rattle.words.specs.Choice.{either}
 use Rattle.words.specs.ChoiceLaws.{both-left, both-right, both-true}
 use Rattle.words.specs.Lists.{member}
 use Rattle.tables.specs.Rows.{rows}

@@ -3,7 +3,6 @@ use mathlib.Core.Path.{_≡_, sym, _∙_}
 use mathlib.Core.Bool.{Bool, true}
 use mathlib.Core.List.{List}
 use Prim.Native.Nat.{ℕ}
-use Rattle.words.specs.Choice.{both}
 use Rattle.words.specs.ChoiceLaws.{both-true}
 use Rattle.keys.specs.Values.{row, look, fetchedWith}
 use Rattle.keys.specs.Steps.{fits, loaded}

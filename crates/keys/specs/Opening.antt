@@ -1,10 +1,10 @@
 -- Before the first step: zeroed tables hold no rows. Assumes nothing.
-use mathlib.Core.Path.{_≡_, refl, _∙_, ap}
+use mathlib.Core.Path.{_≡_, refl}
 use mathlib.Core.List.{List, []}
 use Prim.Native.Nat.{ℕ, _*_, _-_, _≤_}
 use native.Mathlib.Omega.{arith}
 use native.Mathlib.Nat.{zero-mul}
-use lib.ListN.{length, drop, replicate}
+use lib.ListN.{length, replicate}
 use Rattle.tables.specs.Rows.{rows}
 use Rattle.keys.specs.Known.{Keys}
 use Rattle.keys.specs.Bridge.{Bufs, keysOf, Held, Good}

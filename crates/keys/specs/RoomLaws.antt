@@ -11,7 +11,7 @@ use lib.Dec.{leb}
 use borrow.Author.Tests.{le-leb, lt-leb}
 use Rattle.words.specs.Choice.{bit}
 use Rattle.tables.specs.Rows.{Row, rows, insert, lookup, isSome}
-use Rattle.tables.specs.Table.{Table, Inserted, After, storedOf}
+use Rattle.tables.specs.Table.{Table, Inserted, storedOf}
 use Rattle.tables.specs.LayoutLaws.{rows-length}
 use Rattle.tables.specs.RowsTheorems.{length-insert}
 use Rattle.tables.specs.TableTheorems.{inserted-table}

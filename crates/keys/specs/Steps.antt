@@ -1,6 +1,5 @@
 -- What loading, storing and authorising a key leave, and what they cost beyond the base price (document 01, The run: SLoad, SStore, Hash).
 use mathlib.Core.Bool.{Bool, not}
-use mathlib.Core.List.{List}
 use Prim.Native.Nat.{ℕ, _+_, _*_}
 use lib.Dec.{leb, eqb}
 use lib.ListN.{length}

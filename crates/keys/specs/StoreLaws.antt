@@ -5,10 +5,10 @@ use mathlib.Core.List.{List}
 use Prim.Native.Nat.{ℕ}
 use Rattle.words.specs.Choice.{both}
 use Rattle.words.specs.ChoiceLaws.{both-left, both-right}
-use Rattle.tables.specs.Rows.{Row, rows}
+use Rattle.tables.specs.Rows.{rows}
 use Rattle.tables.specs.LayoutLaws.{rows-length}
 use Rattle.keys.specs.Known.{Env, Keys}
-use Rattle.keys.specs.Values.{row, has, putIf, look, lookIn, fetchedWith}
+use Rattle.keys.specs.Values.{row, has, look, lookIn, fetchedWith}
 use Rattle.keys.specs.Steps.{fits, paysFresh, freshAt, storePrice, storePriceAt, stored}
 use Rattle.keys.specs.Bridge.{Bufs, Given, bufs, loaderOf, envOf, keysOf, roomsOf, Good, Put, Leaves, holds}
 use Rattle.keys.specs.StorePlans.{storePlan, storeFits, StoreReady}

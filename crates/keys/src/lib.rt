@@ -4,6 +4,6 @@ pub mod counts;
 pub mod load;
 pub mod look;
 pub mod rights;
-pub mod room;
+mod room;
 pub mod slots;
 pub mod store;

@@ -1,0 +1,23 @@
+-- `keys::room::put_if` meets its contract: nothing is put in, or the row that has room. Assumes nothing.
+use borrow.Author.Needs.{needs}
+use borrow.Author.Tests.{not-true, not-false}
+use Rattle.keys.specs.RoomLaws.{put-off, put-on}
+use Rattle.keys.proofs.room.put_if.Statement.{statement}
+use Rattle.keys.proofs.room.put_if.Tie as tie
+
+returns-2 : tie.Need-returns-2
+returns-2 c =
+    let p = c .before .before .before in
+    let i = p .before .before in
+    let s = i .before .before .before in
+    put-on _ _ _ (s .pre .0) _ _ _ _ (p .put .kept .0) (p .put .ensures) (not-false _ (i .if1 .left)) (s .pre .2) _ (c .counted .ensures)
+
+pub put-if-spec : {M : Type 1} → statement M
+put-if-spec =
+    tie.close
+    (tie.spec
+    (λ c. put-off _ _ _ (c .before .before .before .pre .0) _ _ (not-true _ (c .if1 .taken)))
+    (λ c κs. search needs)
+    (λ c κs. search needs)
+    (λ c. search needs)
+    returns-2)

@@ -1,0 +1,15 @@
+pub mod Known
+pub mod Values
+pub mod Steps
+pub mod Slots
+pub mod Bridge
+pub mod StorePlans
+pub mod LoadPlans
+pub mod KeyPlans
+pub mod SlotLaws
+pub mod LookLaws
+pub mod RoomLaws
+pub mod StoreLaws
+pub mod LoadLaws
+pub mod KeyLaws
+pub mod Opening

@@ -1,0 +1,84 @@
+// The value at a key.
+ghost use mathlib.Core.Path.{_≡_};
+ghost use lib.ListN.{length};
+ghost use Rattle.words.specs.Bytes.{num};
+ghost use Rattle.tables.specs.Rows.{rows};
+ghost use Rattle.tables.specs.Table.{Table};
+ghost use Rattle.keys.specs.Values.{lookIn, fromLoader};
+ghost use Rattle.keys.specs.Bridge.{Loader, loaderOf};
+use tables::rows::Got;
+
+// A value, and whether it came from the loader just now.
+pub struct Look {
+    pub value: u64,
+    pub came: bool,
+}
+
+// What goes with the lent tables: the store's rows, whether there is a loader, and its rows.
+pub struct Lent {
+    pub store: usize,
+    pub present: bool,
+    pub loader: usize,
+}
+
+// The loader's value at a key: 0 if it does not have it, or there is none.
+fn fetch(present: bool, loader: &[u8], n: usize, key: &[u8]) -> Look
+    requires { ⌜ Loader present n (now loader) × (length (now key) ≡ 32) ⌝ }
+    ensures { λ r. ⌜ r ≡ fromLoader (loaderOf present (rows 40 n (now (loader .entry)))) (num (now (key .entry))) ⌝ }
+{
+    if !present {
+        return Look {
+            value: 0,
+            came: false,
+        };
+    }
+    let d = tables::rows::get(loader, n, key);
+    match d {
+        Got::Value(v) => Look {
+            value: v,
+            came: true,
+        },
+        Got::Nothing => Look {
+            value: 0,
+            came: true,
+        },
+    }
+}
+
+// The value at a key: stored, else the store's, else fetched before, else the loader's, else 0.
+pub fn look_up(
+    lent: Lent,
+    store: &[u8],
+    loader: &[u8],
+    changes: &[u8],
+    nc: usize,
+    fetched: &[u8],
+    nf: usize,
+    key: &[u8],
+) -> Look
+    requires { ⌜ Table 40 nc (now changes) × Table 40 (lent .store) (now store) × Table 40 nf (now fetched) × Loader (lent .present) (lent .loader) (now loader) × (length (now key) ≡ 32) ⌝ }
+    ensures { λ r. ⌜ r ≡ lookIn (rows 40 nc (now (changes .entry))) (rows 40 (lent .store) (now (store .entry))) (rows 40 nf (now (fetched .entry))) (loaderOf (lent .present) (rows 40 (lent .loader) (now (loader .entry)))) (num (now (key .entry))) ⌝ }
+{
+    let a = tables::rows::get(changes, nc, key);
+    if let Got::Value(v) = a {
+        return Look {
+            value: v,
+            came: false,
+        };
+    }
+    let b = tables::rows::get(store, lent.store, key);
+    if let Got::Value(v) = b {
+        return Look {
+            value: v,
+            came: false,
+        };
+    }
+    let c = tables::rows::get(fetched, nf, key);
+    if let Got::Value(v) = c {
+        return Look {
+            value: v,
+            came: false,
+        };
+    }
+    fetch(lent.present, loader, lent.loader, key)
+}

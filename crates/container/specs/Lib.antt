@@ -25,3 +25,5 @@ pub mod Offsets
 pub mod OffsetLaws
 pub mod Answers
 pub mod Cases
+pub mod ReadBack
+pub mod Written

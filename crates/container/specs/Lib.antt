@@ -27,3 +27,5 @@ pub mod Answers
 pub mod Cases
 pub mod ReadBack
 pub mod Written
+pub mod Exactly
+pub mod EnoughConsts

@@ -33,3 +33,7 @@ pub mod WriterSizeLaws
 pub mod WriterAnswerLaws
 pub mod WriterWidthLaws
 pub mod WriterTheorems
+pub mod ReadBack
+pub mod Written
+pub mod Exactly
+pub mod EnoughConsts

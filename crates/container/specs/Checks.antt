@@ -35,7 +35,7 @@ Answers s map first i l r =
     r ≡ checkOf (entryRefusal (selectors es) starts x)
 
 -- a container's code and layout, and its entries in the bytes
-pub record Laid (s bytes : List ℕ) (l : Layout) (c : Container) : Type 0 where
+pub record LaidOut (s bytes : List ℕ) (l : Layout) (c : Container) : Type 0 where
   pub code : bytes ≡ c .code
   pub layout : l ≡ layoutOf c
   pub entries : entries (l .entries) (drop (l .«entries_at») s) ≡ read (c .entries) []

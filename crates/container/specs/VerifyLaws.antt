@@ -15,7 +15,7 @@ use Rattle.container.specs.Marks.{Marks}
 use Rattle.container.specs.Targets.{Holds, standsOf}
 use Rattle.container.specs.WalkLaws.{holds-starts}
 use Rattle.container.specs.Verify.{firstOf, entriesRefusal, targetRefusal, codeRefusal, verifyOf, verifiedBy, verifiedOf}
-use Rattle.container.specs.Checks.{checkOf, Laid}
+use Rattle.container.specs.Checks.{checkOf, LaidOut}
 use Rattle.container.specs.declared.reader.Layout.{Layout}
 use Rattle.container.specs.declared.starts.Scan.{Scan}
 use Rattle.container.specs.declared.starts.Scan.the-variants.{Whole}
@@ -40,7 +40,7 @@ a-target (some u) t h = let k : u ≡ t = cc in rw k
 
 -- targets, then entries: what each pass answered
 module _ (s code map : List ℕ) (l : Layout) (r : Stands) (tested : (starts : List ℕ) → Holds map starts → r ≡ standsOf (badTarget (length code) code starts 0))
-    (c : Container) (starts : List ℕ) (a : Laid s code l c) (h : Holds map starts) where
+    (c : Container) (starts : List ℕ) (a : LaidOut s code l c) (h : Holds map starts) where
   targets : r ≡ standsOf (badTarget (length (c .code)) (c .code) starts 0)
   targets = rw (a .code) at (tested starts h)
 
@@ -56,7 +56,7 @@ module _ (s code map : List ℕ) (l : Layout) (r : Stands) (tested : (starts : L
       checked (c .entries) [] starts (a .entries) h ∙ rw (no-target (badTarget (length (c .code)) (c .code) starts 0) (sym e ∙ targets))
 
 -- sizes, then the code
-module _ (s code : List ℕ) (l : Layout) (c : Container) (a : Laid s code l c) where
+module _ (s code : List ℕ) (l : Layout) (c : Container) (a : LaidOut s code l c) where
   sizes : (l .code ≡ length (c .code)) × (l .consts ≡ length (c .consts)) × (l .entries ≡ length (c .entries))
   unfolding layoutOf
   sizes = (ap (λ (x : Layout). x .code) (a .layout), ap (λ (x : Layout). x .consts) (a .layout), ap (λ (x : Layout). x .entries) (a .layout))
@@ -97,7 +97,7 @@ module _ (s code : List ℕ) (l : Layout) (c : Container) (a : Laid s code l c) 
 -- ---- the bytes
 
 -- what was read, with its code as a part of the bytes
-pub laid : (s : List ℕ) (l : Layout) (r : ReadTold s l) → Laid s (take (l .«code_at» + l .code - l .«code_at») (drop (l .«code_at») s)) l (r .found)
+pub laid : (s : List ℕ) (l : Layout) (r : ReadTold s l) → LaidOut s (take (l .«code_at» + l .code - l .«code_at») (drop (l .«code_at») s)) l (r .found)
 unfolding layoutOf
 laid s l r = record {
   code = rw (r .layout, add-sub-cancel-left 8 (length (r .found .code))) (sym (r .body .code));

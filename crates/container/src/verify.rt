@@ -8,7 +8,7 @@ ghost use Rattle.container.specs.Reader.{readOf};
 ghost use Rattle.container.specs.Starts.{walkOf};
 ghost use Rattle.container.specs.Targets.{Holds};
 ghost use Rattle.container.specs.Verify.{codeRefusal, verifyOf, verifiedOf};
-ghost use Rattle.container.specs.Checks.{checkOf, Laid};
+ghost use Rattle.container.specs.Checks.{checkOf, LaidOut};
 ghost use Rattle.container.specs.Answers.{verifyError};
 ghost use Rattle.container.specs.declared.starts.Scan.the-variants.{Whole};
 use super::reader::Layout;
@@ -78,7 +78,7 @@ impl VerifyError {
 
 // Targets, then entries, against a map of the starts.
 fn check_rest(s: &[u8], code: &[u8], map: &[u8], l: Layout) -> Check
-    ensures { λ r. ⌜ ((c : Container) (starts : List ℕ) → Laid (now (s .entry)) (now (code .entry)) l c → Holds (now (map .entry)) starts → r ≡ checkOf (codeRefusal Whole starts c)) ⌝ }
+    ensures { λ r. ⌜ ((c : Container) (starts : List ℕ) → LaidOut (now (s .entry)) (now (code .entry)) l c → Holds (now (map .entry)) starts → r ≡ checkOf (codeRefusal Whole starts c)) ⌝ }
 {
     if let Stands::No(t) = super::targets::targets(code, map) {
         return Check::Failed(VerifyError::MisalignedTarget(t));
@@ -88,7 +88,7 @@ fn check_rest(s: &[u8], code: &[u8], map: &[u8], l: Layout) -> Check
 
 // The code, whose starts a map of 65536 bits holds; then the rest.
 fn check_code(s: &[u8], code: &[u8], l: Layout) -> Check
-    ensures { λ r. ⌜ ((c : Container) → Laid (now (s .entry)) (now (code .entry)) l c → length (c .code) ≤ 65536 →
+    ensures { λ r. ⌜ ((c : Container) → LaidOut (now (s .entry)) (now (code .entry)) l c → length (c .code) ≤ 65536 →
         r ≡ checkOf (codeRefusal (walkOf (c .code) (length (c .consts)) .end) (walkOf (c .code) (length (c .consts)) .starts) c)) ⌝ }
 {
     let mut map = [0u8; 8192];
@@ -102,7 +102,7 @@ fn check_code(s: &[u8], code: &[u8], l: Layout) -> Check
 
 // Sizes first.
 fn check_all(s: &[u8], code: &[u8], l: Layout) -> Check
-    ensures { λ r. ⌜ ((c : Container) → Laid (now (s .entry)) (now (code .entry)) l c → r ≡ checkOf (verifyOf c)) ⌝ }
+    ensures { λ r. ⌜ ((c : Container) → LaidOut (now (s .entry)) (now (code .entry)) l c → r ≡ checkOf (verifyOf c)) ⌝ }
 {
     if 65536 < l.code {
         return Check::Failed(VerifyError::CodeTooLarge);

@@ -29,8 +29,10 @@ enum-told c = search needs
 
 returns : tie.Need-returns Inv-loop μ-loop
 returns c =
-    λ es t starts k m. absurd (none-short _ _ _ _ (c .before .before .before .before .loop .i) (c .before .before .before .before .loop .at) (c .before .before .before .before .loop .inv) es t starts k m (c .before .before .before .loop-test .taken)
-    (entry-short _ (c .before .before .before .before .loop .at) (sym (c .enum-told .given .1) ∙ c .before .before .entry-at .ensures)))
+    let l = c .before .before .before in
+    let at = l .before .loop .at in
+    λ es t starts k m. absurd (none-short _ _ _ _ (l .before .loop .i) at (l .before .loop .inv) es t starts k m (l .loop-test .taken)
+    (entry-short _ at (sym (c .enum-told .given .1) ∙ c .before .before .entry-at .ensures)))
 
 check-entry-requires : tie.Need-check-entry-requires Inv-loop μ-loop
 check-entry-requires c κs = search needs
@@ -45,21 +47,19 @@ entry-of c = entry-found _ (c .before .before .before .before .before .before .l
 returns-2 : tie.Need-returns-2 Inv-loop μ-loop
 returns-2 c =
     let p = c .before .before .before in
-    check-failed _ _ _ _ (c .before .before .before .before .before .before .before .before .before .loop .i) (c .before .before .before .before .before .before .before .before .before .loop .at) (c .before .before .before .before .before .before .before .before .before .loop .inv) (c .before .before .before .before .before .before .before .before .loop-test .taken) _ (entry-of p) _ (p .check-entry .ensures) _ (c .before .x .given .1)
+    let t = p .before .before .before .before .before in
+    let l = t .before .loop in
+    check-failed _ _ _ _ (l .i) (l .at) (l .inv) (t .loop-test .taken) _ (entry-of p) _ (p .check-entry .ensures) _ (c .before .x .given .1)
 
 enum-told-2 : tie.Need-enum-told-2 Inv-loop μ-loop
 enum-told-2 c = search needs
 
-add-i : tie.Need-add-i Inv-loop μ-loop
-add-i c = omega arith
-
-loop-less : tie.Need-loop-less Inv-loop μ-loop
-loop-less c = omega arith
-
 loop-again : tie.Need-loop-again Inv-loop μ-loop
 loop-again c =
     let p = c .before .before in
-    check-on _ _ _ _ (c .before .before .before .before .before .before .before .before .loop .i) (c .before .before .before .before .before .before .before .before .loop .at) (c .before .before .before .before .before .before .before .before .loop .inv) (c .before .before .before .before .before .before .before .loop-test .taken) _ (entry-of p) _ (p .check-entry .ensures) (c .enum-told2 .given .1)
+    let t = p .before .before .before .before .before in
+    let l = t .before .loop in
+    check-on _ _ _ _ (l .i) (l .at) (l .inv) (t .loop-test .taken) _ (entry-of p) _ (p .check-entry .ensures) (c .enum-told2 .given .1)
 
 returns-3 : tie.Need-returns-3 Inv-loop μ-loop
 returns-3 c = λ es t starts k m. all-checked _ _ _ _ (c .before .loop .i) (c .before .loop .at) (c .before .loop .inv) es t starts k m (c .loop-test .left)
@@ -79,7 +79,7 @@ check-entries-spec =
     enum-known-x
     returns-2
     enum-told-2
-    add-i
-    loop-less
+    (λ c. omega arith)
+    (λ c. omega arith)
     loop-again
     returns-3)

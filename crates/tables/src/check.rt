@@ -12,7 +12,7 @@ pub enum Checked {
 }
 
 // Whether the keys of the first n rows rise strictly.
-fn rising(t: &[u8], n: usize, w: usize) -> bool
+pub fn rising(t: &[u8], n: usize, w: usize) -> bool
     requires { ⌜ (32 ≤ w) × (n * w ≤ length (now t)) ⌝ }
     ensures { λ r. ⌜ r ≡ risingb 0 (rows w n (now (t .entry))) ⌝ }
 {

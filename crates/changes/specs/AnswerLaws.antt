@@ -1,0 +1,92 @@
+-- What each way out of the change list answers and leaves. Assumes nothing.
+use mathlib.Core.Path.{_≡_, sym, ap, subst}
+use mathlib.Core.Bool.{Bool, true, false}
+use mathlib.Core.List.{List}
+use mathlib.Core.Option.{Option, some, none}
+use Prim.Native.Nat.{ℕ, _*_, _/_, _≤_, _<_}
+use native.Mathlib.Omega.{arith}
+use lib.ListN.{length}
+use lib.Dec.{leb}
+use borrow.Author.Tests.{le-leb, lt-leb}
+use Rattle.words.specs.Choice.{pick}
+use Rattle.tables.specs.Rows.{Row, rows}
+use Rattle.tables.specs.Table.{Table}
+use Rattle.tables.specs.Checked.{risingb, checkedOf}
+use Rattle.tables.specs.CheckTheorems.{whole-table}
+use Rattle.tables.specs.declared.check.Checked.the-variants.{Whole, Bad}
+use Rattle.changes.specs.ChangeList.{Lent, changed, rowsOf, loaderOf, storedOf, listFrom, listOf, answerOf, outputBy, outputOf}
+use Rattle.changes.specs.Parts.{written}
+use Rattle.changes.specs.declared.ChangeList.{ChangeList}
+use Rattle.changes.specs.declared.ChangeList.the-variants as answer
+
+-- the answer and the output that a list determines
+abbrev pub Ends : Option (List Row) → (out after : List ℕ) → ChangeList → Type 0
+Ends o out after r = (r ≡ answerOf o out) × (after ≡ outputOf o out)
+
+pub ends-bad : (o : Option (List Row)) (out : List ℕ) → o ≡ none → Ends o out out answer.BadTable
+unfolding answerOf outputOf outputBy
+ends-bad o out e = (rw e, rw e)
+
+pub ends-short : (rs : List Row) (out : List ℕ) (k : ℕ) → k ≡ length rs → length out / 40 < k → Ends (some rs) out out answer.NoRoom
+unfolding answerOf outputOf outputBy
+ends-short rs out k e h =
+    let f : leb (length rs * 40) (length out) ≡ false = lt-leb (length rs * 40) (length out) (omega arith) in
+    (rw f, rw f)
+
+pub ends-rows : (rs : List Row) (out u : List ℕ) (k : ℕ) → k ≡ length rs → k ≤ length out / 40 → u ≡ written rs out → Ends (some rs) out u (answer.Rows k)
+unfolding answerOf outputOf outputBy
+ends-rows rs out u k e h p =
+    let f : leb (length rs * 40) (length out) ≡ true = le-leb (length rs * 40) (length out) (omega arith) in
+    (rw f (ap answer.Rows e), rw f p)
+
+-- the counted rows
+pub stored-past : (t : List ℕ) (n : ℕ) → length t / 40 < n → storedOf t n ≡ none
+unfolding storedOf
+stored-past t n h = rw (lt-leb (n * 40) (length t) (omega arith))
+
+pub stored-by : (t : List ℕ) (n : ℕ) (b : Bool) → n ≤ length t / 40 → b ≡ risingb 0 (rows 40 n t) → storedOf t n ≡ pick b (some (rows 40 n t)) none
+unfolding storedOf
+stored-by t n b h e = rw (le-leb (n * 40) (length t) (omega arith), ← e)
+
+-- a loader that is absent has no rows
+abbrev pub Loader : Bool → List ℕ → ℕ → Type 0
+Loader present t n = pick present (checkedOf 40 t) (Whole 0) ≡ Whole n
+
+pub loader-table : (present : Bool) (t : List ℕ) (n : ℕ) → Loader present t n → Table 40 n t
+unfolding rows
+loader-table true t n e = whole-table 40 t (omega arith) n e
+loader-table false t n e = let z : 0 ≡ n = cc in rw (← z) (record { wide = omega arith; fits = omega arith; rising = tt })
+
+pub loader-rows : (present : Bool) (t : List ℕ) (n : ℕ) → Loader present t n → loaderOf present t ≡ some (rows 40 n t)
+unfolding loaderOf rowsOf rows
+loader-rows true t n e = rw e
+loader-rows false t n e = let z : 0 ≡ n = cc in rw (← z)
+
+pub loader-bad : (present : Bool) (t : List ℕ) → pick present (checkedOf 40 t) (Whole 0) ≡ Bad → loaderOf present t ≡ none
+unfolding loaderOf rowsOf
+loader-bad true t e = rw e
+loader-bad false t e = let z : _≡_ {A = ℕ} 0 1 = cc in absurd (omega arith)
+
+-- the list, by its three tables
+module _ (l : Lent) where
+  pub no-changes : storedOf (l .changes) (l .count) ≡ none → listOf l ≡ none
+  unfolding listOf listFrom
+  no-changes e = rw e
+
+  module _ (cs : List Row) (c : storedOf (l .changes) (l .count) ≡ some cs) where
+    pub no-store : checkedOf 40 (l .store) ≡ Bad → listOf l ≡ none
+    unfolding listOf listFrom rowsOf
+    no-store e = rw (c, e)
+
+    module _ (ns : ℕ) (s : checkedOf 40 (l .store) ≡ Whole ns) where
+      pub no-loader : loaderOf (l .present) (l .loader) ≡ none → listOf l ≡ none
+      unfolding listOf listFrom rowsOf
+      no-loader e = rw (c, s, e)
+
+      pub listed : (ls : List Row) → loaderOf (l .present) (l .loader) ≡ some ls → listOf l ≡ some (changed (rows 40 ns (l .store)) ls cs)
+      unfolding listOf listFrom rowsOf
+      listed ls e = rw (c, s, e)
+
+-- the ends of one list are those of an equal one
+pub ends-as : (o p : Option (List Row)) (out after : List ℕ) (r : ChangeList) → o ≡ p → Ends p out after r → Ends o out after r
+ends-as o p out after r e x = subst (λ (q : Option (List Row)). Ends q out after r) (sym e) x

@@ -1,5 +1,4 @@
 -- Document 01's number and argument for each case of the container's answers (Numbers returned); 0 0 when done.
-use Prim.Native.Nat.{ℕ}
 use Rattle.isa.specs.Answers.{Answer, answer}
 use Rattle.container.specs.declared.reader.ReadError.{ReadError}
 use Rattle.container.specs.declared.reader.ReadError.the-variants as reader

@@ -14,7 +14,7 @@ use Rattle.container.specs.Starts.{refersTo, ended, met, unlessBad, walk
 use Rattle.container.specs.Verify.{slotCount, entryRefusal, firstOf, entriesRefusal, targetRefusal, codeRefusal, verifyOf, verifiedBy, verifiedOf}
 use Rattle.container.specs.Offsets.{offsetIn, offsetOf}
 use Rattle.container.specs.Container.{Container}
-use Rattle.container.specs.Answers.{verifiedAnswer, offsetAnswer}
+use Rattle.container.specs.Answers.{offsetAnswer}
 use Rattle.container.specs.declared.verify.Verified.the-variants.{Valid}
 
 -- one Halt, no constants, one entry `abcd` at 0 without slots

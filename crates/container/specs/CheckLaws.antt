@@ -8,13 +8,13 @@ use native.Mathlib.Omega.{arith}
 use native.Mathlib.Nat.{sub-zero}
 use native.Mathlib.Numerals.{add-one}
 use lib.Dec.{eqb, leb}
-use lib.ListN.{length, drop}
+use lib.ListN.{drop}
 use Rattle.words.specs.Choice.{pick, either}
 use Rattle.words.specs.Lists.{member}
 use Rattle.container.specs.Container.{Entry}
 use Rattle.container.specs.Reader.{Parsed, short, read, andThen, entry, entries}
 use Rattle.container.specs.Entries.{placed, foundIn}
-use Rattle.container.specs.EntryTold.{Both, both-read, EntryFound}
+use Rattle.container.specs.EntryTold.{both-read, EntryFound}
 use Rattle.container.specs.EntriesLaws.{entries-more, no-more, entries-cons}
 use Rattle.container.specs.Starts.{marked}
 use Rattle.container.specs.Targets.{Holds}

@@ -2,15 +2,15 @@
 use mathlib.Core.Path.{_≡_, refl, sym, ap, _∙_}
 use mathlib.Core.Bool.{Bool, true, false}
 use mathlib.Core.List.{List, map}
-use Prim.Native.Nat.{ℕ, _^_, _≤_, _<_}
+use Prim.Native.Nat.{ℕ, _≤_, _<_}
 use native.Mathlib.Omega.{arith}
-use lib.Dec.{ltb, eqb}
+use lib.Dec.{eqb}
 use lib.ListN.{length}
 use borrow.Author.Tests.{lt-ltb, eqb-true}
 use Rattle.words.specs.Choice.{pick}
 use Rattle.words.specs.Lists.{member}
 use Rattle.words.specs.Bytes.{Bytes}
-use Rattle.isa.specs.Table.{rowOf, byteOf, wideOf, find, opAt}
+use Rattle.isa.specs.Table.{rowOf, byteOf, find, opAt}
 use Rattle.isa.specs.TableLaws.{known}
 use Rattle.isa.specs.Forms.{formOf}
 use Rattle.isa.specs.Range.{InRange}
@@ -20,11 +20,10 @@ use Rattle.isa.specs.declared.opcode.OpCode.the-variants.{Ldc}
 use Rattle.isa.specs.declared.opcode.Op.the-variants.{Known}
 use Rattle.isa.specs.declared.instr.Instr.{Instr}
 use Rattle.container.specs.Starts.{Walk, jumps, refersTo, ended, met, unlessBad, walkOf}
-use Rattle.container.specs.WalkLaws.{Kept, walk-keeps}
+use Rattle.container.specs.WalkLaws.{walk-keeps}
 use Rattle.container.specs.declared.starts.Refers.{Refers}
 use Rattle.container.specs.declared.starts.Refers.the-variants.{Const, Target, Nothing}
-use Rattle.container.specs.declared.starts.Scan.{Scan}
-use Rattle.container.specs.declared.starts.Scan.the-variants.{Whole, Undecodable, BadConst}
+use Rattle.container.specs.declared.starts.Scan.the-variants.{BadConst}
 
 -- the opcode of a byte is one
 ldc : (o : OpCode) → byteOf o ≡ 4 → o ≡ Ldc

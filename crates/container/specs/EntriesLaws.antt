@@ -1,14 +1,13 @@
 -- Entries in a row: a turn of a loop over them, and what is told when all are read. Assumes nothing.
 use mathlib.Core.Path.{_≡_, refl, sym, ap, _∙_}
 use mathlib.Core.List.{List, [], _∷_}
-use Prim.Native.Nat.{ℕ, zero, suc, _+_, _-_, _*_, _≤_, _<_}
+use Prim.Native.Nat.{ℕ, zero, suc, _-_, _≤_, _<_}
 use native.Mathlib.Omega.{arith}
-use native.Mathlib.Numerals.{add-one}
 use lib.ListN.{length, drop}
 use Rattle.container.specs.Container.{Entry}
 use Rattle.container.specs.Reader.{Parsed, short, read, andThen, entry, entries}
 use Rattle.container.specs.Entries.{placed, ends, endOf}
-use Rattle.container.specs.EntryTold.{Both, both-read, entry-told, EntryFound}
+use Rattle.container.specs.EntryTold.{both-read, entry-told, EntryFound}
 use Rattle.container.specs.declared.entries.EntryLayout.{EntryLayout}
 use Rattle.container.specs.declared.entries.End.the-variants.{At, Short}
 

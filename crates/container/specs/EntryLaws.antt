@@ -1,5 +1,5 @@
 -- Counted lists and entries at a place, as the code finds them. Assumes nothing.
-use mathlib.Core.Path.{_≡_, refl, sym, ap, _∙_}
+use mathlib.Core.Path.{_≡_, refl, _∙_}
 use mathlib.Core.Bool.{Bool, true, false}
 use mathlib.Core.List.{List}
 use Prim.Native.Nat.{ℕ, _+_, _-_, _*_, _/_, _≤_, _<_}
@@ -13,9 +13,7 @@ use Rattle.container.specs.Reader.{Parsed, short, read, andThen, wordsOf
 use Rattle.container.specs.ParseLaws.{length-words, number-there, number-short, counted-short, counted-there, no-count}
 use Rattle.container.specs.Entries.{slots, listAt, placed, entryAt}
 use Rattle.container.specs.declared.entries.Slots.{Slots}
-use Rattle.container.specs.declared.entries.CountedRead.{CountedRead}
 use Rattle.container.specs.declared.entries.CountedRead.the-variants.{Done, Short}
-use Rattle.container.specs.declared.entries.EntryLayout.{EntryLayout}
 use Rattle.container.specs.declared.entries.EntryRead.the-variants as entries
 
 pub list-none : (s : List ℕ) (at : ℕ) → length s - at < 4 → Short ≡ listAt at (counted (drop at s))

@@ -5,13 +5,12 @@ use mathlib.Core.List.{List}
 use Prim.Native.Nat.{ℕ, _+_, _-_, _*_, _≤_, _<_}
 use native.Mathlib.Omega.{arith}
 use lib.Dec.{leb}
-use lib.ListN.{length, take, drop}
+use lib.ListN.{length, drop}
 use borrow.Author.Tests.{leb-true, leb-false}
-use Rattle.words.specs.Bytes.{num}
 use Rattle.container.specs.Container.{Entry}
 use Rattle.container.specs.Reader.{Parsed, short, read, andThen, counted, entry}
 use Rattle.container.specs.Entries.{slots, listAt, placed, entryAt}
-use Rattle.container.specs.EntryLaws.{Listed, list-told, entry-none, lists, head}
+use Rattle.container.specs.EntryLaws.{list-told, entry-none, lists, head}
 use Rattle.container.specs.declared.entries.EntryLayout.{EntryLayout}
 use Rattle.container.specs.declared.entries.EntryRead.the-variants.{Done, Short}
 

@@ -2,14 +2,14 @@
 use mathlib.Core.Path.{_≡_, refl, sym, ap, _∙_}
 use mathlib.Core.Bool.{Bool, true, false}
 use mathlib.Core.List.{List, [], _∷_}
-use Prim.Native.Nat.{ℕ, zero, suc, _+_, _-_, _≤_, _<_}
+use Prim.Native.Nat.{ℕ, _-_, _≤_, _<_}
 use native.Mathlib.Omega.{arith}
 use lib.Dec.{eqb}
-use lib.ListN.{length, drop}
+use lib.ListN.{drop}
 use borrow.Author.Tests.{eq-eqb, ne-eqb}
 use Rattle.words.specs.Choice.{pick}
 use Rattle.container.specs.Container.{Entry}
-use Rattle.container.specs.Reader.{Parsed, short, read, entry, entries, readOf, layoutOf}
+use Rattle.container.specs.Reader.{short, read, entry, entries, readOf, layoutOf}
 use Rattle.container.specs.Entries.{placed, foundIn}
 use Rattle.container.specs.EntryTold.{EntryFound}
 use Rattle.container.specs.EntriesLaws.{entries-more, no-more, entries-cons}

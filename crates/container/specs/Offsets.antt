@@ -3,7 +3,7 @@ use mathlib.Core.List.{List, [], _∷_}
 use Prim.Native.Nat.{ℕ}
 use lib.Dec.{eqb}
 use Rattle.words.specs.Choice.{pick}
-use Rattle.container.specs.Container.{Entry, Container}
+use Rattle.container.specs.Container.{Entry}
 use Rattle.container.specs.Reader.{Read, done, refused}
 use Rattle.container.specs.declared.offsets.Offset.{Offset}
 use Rattle.container.specs.declared.offsets.Offset.the-variants.{At, UnknownSelector, Unreadable}

@@ -1,16 +1,13 @@
 -- What is read at a place of bytes. Assumes nothing.
-use mathlib.Core.Path.{_≡_, refl, sym, ap, _∙_}
-use mathlib.Core.List.{List, [], _∷_}
+use mathlib.Core.Path.{_≡_, refl, ap}
+use mathlib.Core.List.{List}
 use Prim.Native.Nat.{ℕ, zero, suc, _+_, _-_, _*_, _/_, _≤_, _<_}
 use native.Mathlib.Omega.{arith}
-use lib.Dec.{leb}
 use lib.ListN.{length, take, drop, length-drop}
 use lib.Seq.{drop-drop}
 use borrow.Author.Tests.{le-leb, lt-leb}
-use Rattle.words.specs.Choice.{pick}
 use Rattle.words.specs.Bytes.{num}
-use Rattle.container.specs.Container.{Entry}
-use Rattle.container.specs.Reader.{Parsed, short, read, andThen, part, number, wordsOf, counted, entry}
+use Rattle.container.specs.Reader.{short, read, part, number, wordsOf, counted}
 
 pub length-words : (n : ℕ) (s : List ℕ) → length (wordsOf n s) ≡ n
 unfolding wordsOf

@@ -2,7 +2,7 @@
 use mathlib.Core.Path.{_≡_, refl, sym, ap, _∙_}
 use mathlib.Core.Bool.{Bool, true, false}
 use mathlib.Core.List.{List, [], _∷_}
-use Prim.Native.Nat.{ℕ, zero, suc, _+_, _-_, _*_, _≤_, _<_}
+use Prim.Native.Nat.{ℕ, _+_, _-_, _*_, _≤_}
 use native.Mathlib.Omega.{arith}
 use lib.Dec.{leb, eqb}
 use lib.ListN.{length, take, drop, length-drop}
@@ -10,15 +10,15 @@ use lib.Seq.{length-take-le}
 use borrow.Author.Tests.{leb-true, leb-false, eqb-true}
 use Rattle.words.specs.Choice.{pick}
 use Rattle.words.specs.Bytes.{num}
-use Rattle.container.specs.Container.{Entry, Container}
+use Rattle.container.specs.Container.{Container}
 use Rattle.container.specs.Canonical.{tag}
-use Rattle.container.specs.Reader.{Parsed, short, read, andThen, part, number, counted, entries, container, Read, done, refused, whole, readOf, layoutOf, readingOf}
-use Rattle.container.specs.ParseLaws.{part-there, part-short, number-there, number-short}
-use Rattle.container.specs.EntryTold.{Both, both-read, after, counted-told}
+use Rattle.container.specs.Reader.{Parsed, short, read, part, number, counted, entries, container, Read, done, refused, whole, readOf, layoutOf, readingOf}
+use Rattle.container.specs.ParseLaws.{part-there, part-short}
+use Rattle.container.specs.EntryTold.{both-read, after, counted-told}
 use Rattle.container.specs.EntriesLaws.{entries-told}
 use Rattle.container.specs.declared.reader.Layout.{Layout}
 use Rattle.container.specs.declared.reader.ReadError.{ReadError}
-use Rattle.container.specs.declared.reader.ReadError.the-variants.{BadTag, Short, Trailing}
+use Rattle.container.specs.declared.reader.ReadError.the-variants.{BadTag, Short}
 use Rattle.container.specs.declared.reader.Reading.the-variants.{Done, Refused}
 
 -- bytes that were read at a place

@@ -1,16 +1,14 @@
 -- What the reader answers, from what the code finds on its way. Assumes nothing.
-use mathlib.Core.Path.{_≡_, refl, sym, ap, _∙_}
-use mathlib.Core.List.{List, [], _∷_}
-use Prim.Native.Nat.{ℕ, zero, suc, _+_, _-_, _*_, _≤_, _<_}
+use mathlib.Core.Path.{_≡_, ap, _∙_}
+use mathlib.Core.List.{List, []}
+use Prim.Native.Nat.{ℕ, _+_, _-_, _*_, _≤_, _<_}
 use native.Mathlib.Omega.{arith}
-use lib.Dec.{leb, eqb}
-use lib.ListN.{length, take, drop, length-drop, drop-of-length-le, getD}
+use lib.ListN.{length, take, drop, length-drop, drop-of-length-le}
 use lib.Seq.{length-take-le, drop-cons}
 use borrow.Author.Tests.{le-leb, lt-leb, eq-eqb, ne-eqb}
 use Rattle.words.specs.Bytes.{num}
-use Rattle.container.specs.Container.{Entry, Container}
 use Rattle.container.specs.Canonical.{tag}
-use Rattle.container.specs.Reader.{Parsed, short, read, andThen, counted, entries, container, whole, readOf, layoutOf, readingOf}
+use Rattle.container.specs.Reader.{short, read, counted, entries, container, whole, readOf, layoutOf, readingOf}
 use Rattle.container.specs.ParseLaws.{number-there, number-short, part-there, part-short}
 use Rattle.container.specs.EntryLaws.{Listed}
 use Rattle.container.specs.EntriesLaws.{EntriesFound}

@@ -2,19 +2,16 @@
 use mathlib.Core.Path.{_≡_, refl, sym, ap, _∙_}
 use mathlib.Core.Bool.{Bool, true, false}
 use mathlib.Core.List.{List, [], _∷_}
-use Prim.Native.Nat.{ℕ, zero, suc, _+_, _-_, _*_, _≤_, _<_}
+use Prim.Native.Nat.{ℕ, _+_, _-_, _≤_, _<_}
 use native.Mathlib.Omega.{arith}
 use native.Mathlib.Nat.{sub-zero}
-use lib.Bits.{bitOr}
 use lib.Dec.{eqb, ltb}
-use lib.ListN.{length, getD, length-set}
-use borrow.Author.Tests.{lt-ltb, le-ltb}
+use lib.ListN.{length, length-set}
 use Rattle.words.specs.Choice.{pick, either}
 use Rattle.words.specs.Lists.{member}
 use Rattle.isa.specs.Codec.{decodeAt}
 use Rattle.isa.specs.declared.instr.Instr.{Instr}
 use Rattle.isa.specs.declared.codec.DecodeError.{DecodeError}
-use Rattle.isa.specs.declared.codec.Decoded.{Decoded}
 use Rattle.isa.specs.declared.codec.Decoded.the-variants.{Done, Refused}
 use Rattle.container.specs.Starts.{Walk, refersTo, ended, met, unlessBad, walkBy, walk, walkOf, marked}
 use Rattle.container.specs.Marks.{markIn, Marks, indexOf}

@@ -1,5 +1,5 @@
 -- A turn of the pass over the targets. Assumes nothing.
-use mathlib.Core.Path.{_≡_, refl, sym, ap, _∙_}
+use mathlib.Core.Path.{_≡_, refl, _∙_}
 use mathlib.Core.Bool.{Bool, true, false}
 use mathlib.Core.List.{List}
 use mathlib.Core.Option.{Option, some, none}
@@ -18,7 +18,6 @@ use Rattle.container.specs.Targets.{Holds, targetOf, standsOf}
 use Rattle.container.specs.SweepLaws.{Sweep, at-end, on}
 use Rattle.container.specs.declared.starts.Refers.{Refers}
 use Rattle.container.specs.declared.starts.Refers.the-variants.{Const, Target, Nothing}
-use Rattle.container.specs.declared.starts.Stands.{Stands}
 use Rattle.container.specs.declared.starts.Stands.the-variants.{Yes, No}
 
 -- from a place on, with as many turns as bytes are left

@@ -2,13 +2,13 @@
 use mathlib.Core.List.{List, [], _∷_}
 use mathlib.Core.Option.{Option, some, none}
 use Prim.Native.Nat.{ℕ, _+_}
-use lib.Dec.{leb, eqb}
+use lib.Dec.{leb}
 use lib.ListN.{length}
 use Rattle.words.specs.Choice.{pick}
 use Rattle.words.specs.Lists.{member}
 use Rattle.container.specs.Container.{Entry, Container}
-use Rattle.container.specs.Reader.{Read, done, refused, readOf, layoutOf}
-use Rattle.container.specs.Starts.{Walk, walkOf, badTarget}
+use Rattle.container.specs.Reader.{Read, done, refused, layoutOf}
+use Rattle.container.specs.Starts.{walkOf, badTarget}
 use Rattle.container.specs.declared.starts.Scan.{Scan}
 use Rattle.container.specs.declared.starts.Scan.the-variants.{Whole, Undecodable, BadConst}
 use Rattle.container.specs.declared.verify.VerifyError.{VerifyError}

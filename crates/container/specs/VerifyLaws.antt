@@ -1,6 +1,5 @@
 -- What verify answers, from what the code finds on its way. Assumes nothing.
 use mathlib.Core.Path.{_≡_, refl, sym, ap, _∙_}
-use mathlib.Core.Bool.{Bool, true, false}
 use mathlib.Core.List.{List, []}
 use mathlib.Core.Option.{Option, some, none}
 use Prim.Native.Nat.{ℕ, _+_, _-_, _*_, _≤_, _<_}
@@ -9,8 +8,8 @@ use native.Mathlib.Nat.{add-sub-cancel-left}
 use lib.ListN.{length, take, drop, replicate}
 use borrow.Author.Tests.{le-leb, lt-leb}
 use Rattle.container.specs.Container.{Entry, Container}
-use Rattle.container.specs.Reader.{read, entries, readOf, done, layoutOf}
-use Rattle.container.specs.ReadTold.{BodyTold, ReadTold}
+use Rattle.container.specs.Reader.{read, entries, readOf, layoutOf}
+use Rattle.container.specs.ReadTold.{ReadTold}
 use Rattle.container.specs.Starts.{Walk, walkOf, badTarget}
 use Rattle.container.specs.Marks.{Marks}
 use Rattle.container.specs.Targets.{Holds, standsOf}
@@ -19,7 +18,7 @@ use Rattle.container.specs.Verify.{firstOf, entriesRefusal, targetRefusa
 use Rattle.container.specs.Checks.{checkOf, Laid}
 use Rattle.container.specs.declared.reader.Layout.{Layout}
 use Rattle.container.specs.declared.starts.Scan.{Scan}
-use Rattle.container.specs.declared.starts.Scan.the-variants.{Whole, Undecodable, BadConst}
+use Rattle.container.specs.declared.starts.Scan.the-variants.{Whole}
 use Rattle.container.specs.declared.starts.Stands.the-variants.{Yes, No}
 use Rattle.container.specs.declared.starts.Stands.{Stands}
 use Rattle.container.specs.declared.verify.VerifyError.{VerifyError}

@@ -1,13 +1,13 @@
 -- What holds of every reading of the code: its starts lie in the code, and few enough indexes never are too many. Assumes nothing.
-use mathlib.Core.Path.{_≡_, refl, sym, ap, _∙_}
+use mathlib.Core.Path.{_≡_, refl, sym, _∙_}
 use mathlib.Core.Bool.{Bool, true, false}
-use mathlib.Core.List.{List, [], _∷_}
+use mathlib.Core.List.{List}
 use Prim.Native.Nat.{ℕ, zero, suc, _+_, _*_, _/_, _%_, _^_, _≤_, _<_}
 use native.Mathlib.Omega.{arith}
 use native.Mathlib.Nat.{zero-div}
-use lib.Dec.{leb, ltb, eqb}
-use lib.ListN.{length, getD, replicate, length-replicate, getD-replicate}
-use borrow.Author.Tests.{leb-false, ltb-true, ltb-false, lt-ltb, ne-eqb}
+use lib.Dec.{leb, ltb}
+use lib.ListN.{length, replicate, length-replicate, getD-replicate}
+use borrow.Author.Tests.{leb-false, ltb-true, ltb-false, ne-eqb}
 use Rattle.words.specs.Choice.{pick, either}
 use Rattle.words.specs.Lists.{member}
 use Rattle.isa.specs.Codec.{decodeAt}

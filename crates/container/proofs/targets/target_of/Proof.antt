@@ -1,5 +1,4 @@
 -- `target_of` meets its contract. Assumes nothing.
-use mathlib.Core.Path.{sym, _∙_}
 use borrow.Author.Needs.{needs}
 use Rattle.container.specs.Targets.{targetOf}
 use Rattle.container.proofs.targets.target_of.Statement.{statement}

@@ -29,10 +29,11 @@ enum-told c = search needs
 
 returns : tie.Need-returns Inv-loop μ-loop
 returns c =
-    let l = c .before .before .before in
-    let at = l .before .loop .at in
-    λ es t starts k m. absurd (none-short _ _ _ _ (l .before .loop .i) at (l .before .loop .inv) es t starts k m (l .loop-test .taken)
-    (entry-short _ at (sym (c .enum-told .given .1) ∙ c .before .before .entry-at .ensures)))
+    let reading = c .before .before in
+    let tested = reading .before in
+    let turn = tested .before in
+    λ es t starts k m. absurd (none-short _ _ _ _ (turn .loop .i) (turn .loop .at) (turn .loop .inv) es t starts k m (tested .loop-test .taken)
+    (entry-short _ (turn .loop .at) (sym (c .enum-told .given .1) ∙ reading .entry-at .ensures)))
 
 check-entry-requires : tie.Need-check-entry-requires Inv-loop μ-loop
 check-entry-requires c κs = search needs
@@ -42,24 +43,31 @@ enum-known-x c = search needs
 
 -- the entry that a turn found
 entry-of : (c : tie.After-check-entry Inv-loop μ-loop) → EntryFound (now (c .before .before .before .before .before .before .before .before .before .args .s)) (c .before .before .before .before .before .before .loop .at) (c .before .before .e .given .0 .0)
-entry-of c = entry-found _ (c .before .before .before .before .before .before .loop .at) _ (sym (c .before .before .e .given .1) ∙ c .before .before .before .before .entry-at .ensures)
+entry-of c =
+    let told = c .before .before in
+    let reading = told .before .before in
+    let turn = reading .before .before in
+    entry-found _ (turn .loop .at) _ (sym (told .e .given .1) ∙ reading .entry-at .ensures)
 
 returns-2 : tie.Need-returns-2 Inv-loop μ-loop
 returns-2 c =
-    let p = c .before .before .before in
-    let t = p .before .before .before .before .before in
-    let l = t .before .loop in
-    check-failed _ _ _ _ (l .i) (l .at) (l .inv) (t .loop-test .taken) _ (entry-of p) _ (p .check-entry .ensures) _ (c .before .x .given .1)
+    let at-x = c .before in
+    let at-before = at-x .before in
+    let tested = at-before .before .before .before .before .before .before in
+    let turn = tested .before in
+    let p = at-before .before in
+    check-failed _ _ _ _ (turn .loop .i) (turn .loop .at) (turn .loop .inv) (tested .loop-test .taken) _ (entry-of p) _ (p .check-entry .ensures) _ (at-x .x .given .1)
 
 enum-told-2 : tie.Need-enum-told-2 Inv-loop μ-loop
 enum-told-2 c = search needs
 
 loop-again : tie.Need-loop-again Inv-loop μ-loop
 loop-again c =
-    let p = c .before .before in
-    let t = p .before .before .before .before .before in
-    let l = t .before .loop in
-    check-on _ _ _ _ (l .i) (l .at) (l .inv) (t .loop-test .taken) _ (entry-of p) _ (p .check-entry .ensures) (c .enum-told2 .given .1)
+    let at-before = c .before in
+    let tested = at-before .before .before .before .before .before .before in
+    let turn = tested .before in
+    let p = at-before .before in
+    check-on _ _ _ _ (turn .loop .i) (turn .loop .at) (turn .loop .inv) (tested .loop-test .taken) _ (entry-of p) _ (p .check-entry .ensures) (c .enum-told2 .given .1)
 
 returns-3 : tie.Need-returns-3 Inv-loop μ-loop
 returns-3 c = λ es t starts k m. all-checked _ _ _ _ (c .before .loop .i) (c .before .loop .at) (c .before .loop .inv) es t starts k m (c .loop-test .left)

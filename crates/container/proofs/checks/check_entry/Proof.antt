@@ -13,7 +13,10 @@ enum-told : tie.Need-enum-told
 enum-told c = search needs
 
 returns : tie.Need-returns
-returns c = by-tests _ _ (c .before .before .before .before .before .args .first) (c .before .before .before .before .before .args .i) (c .before .before .before .before .before .args .e) _ (c .before .before .find .ensures) _ _ _ (ap isFound (c .enum-told .given .1)) refl refl
+returns c =
+    let searched = c .before .before in
+    let start = searched .before .before .before in
+    by-tests _ _ (start .args .first) (start .args .i) (start .args .e) _ (searched .find .ensures) _ _ _ (ap isFound (c .enum-told .given .1)) refl refl
 
 enum-told-2 : tie.Need-enum-told-2
 enum-told-2 c = search needs
@@ -23,21 +26,37 @@ is-start-requires c κs = search needs
 
 returns-2 : tie.Need-returns-2
 returns-2 c =
-    by-tests _ _ (c .before .before .before .before .before .before .before .args .first) (c .before .before .before .before .before .before .before .args .i) (c .before .before .before .before .before .before .before .args .e) _ (c .before .before .before .before .find .ensures) _ _ _ (ap isFound (c .before .before .enum-told2 .given .1))
-    (sym (c .before .is-start .ensures) ∙ not-true _ (c .if1 .taken)) refl
+    let looked = c .before in
+    let unknown = looked .before in
+    let searched = unknown .before .before in
+    let start = searched .before .before .before in
+    by-tests _ _ (start .args .first) (start .args .i) (start .args .e) _ (searched .find .ensures) _ _ _ (ap isFound (unknown .enum-told2 .given .1))
+    (sym (looked .is-start .ensures) ∙ not-true _ (c .if1 .taken)) refl
 
 few-requires : tie.Need-few-requires
 few-requires c κs = search needs
 
 returns-3 : tie.Need-returns-3
 returns-3 c =
-    by-tests _ _ (c .before .before .before .before .before .before .before .before .before .args .first) (c .before .before .before .before .before .before .before .before .before .args .i) (c .before .before .before .before .before .before .before .before .before .args .e) _ (c .before .before .before .before .before .before .find .ensures) _ _ _ (ap isFound (c .before .before .before .before .enum-told2 .given .1))
-    (sym (c .before .before .before .is-start .ensures) ∙ not-false _ (c .before .before .if1 .left)) (sym (c .before .few .ensures) ∙ not-true _ (c .if2 .taken))
+    let counted = c .before in
+    let first-at = counted .before in
+    let looked = first-at .before in
+    let unknown = looked .before in
+    let searched = unknown .before .before in
+    let start = searched .before .before .before in
+    by-tests _ _ (start .args .first) (start .args .i) (start .args .e) _ (searched .find .ensures) _ _ _ (ap isFound (unknown .enum-told2 .given .1))
+    (sym (looked .is-start .ensures) ∙ not-false _ (first-at .if1 .left)) (sym (counted .few .ensures) ∙ not-true _ (c .if2 .taken))
 
 returns-4 : tie.Need-returns-4
 returns-4 c =
-    by-tests _ _ (c .before .before .before .before .before .before .before .before .before .args .first) (c .before .before .before .before .before .before .before .before .before .args .i) (c .before .before .before .before .before .before .before .before .before .args .e) _ (c .before .before .before .before .before .before .find .ensures) _ _ _ (ap isFound (c .before .before .before .before .enum-told2 .given .1))
-    (sym (c .before .before .before .is-start .ensures) ∙ not-false _ (c .before .before .if1 .left)) (sym (c .before .few .ensures) ∙ not-false _ (c .if2 .left))
+    let counted = c .before in
+    let first-at = counted .before in
+    let looked = first-at .before in
+    let unknown = looked .before in
+    let searched = unknown .before .before in
+    let start = searched .before .before .before in
+    by-tests _ _ (start .args .first) (start .args .i) (start .args .e) _ (searched .find .ensures) _ _ _ (ap isFound (unknown .enum-told2 .given .1))
+    (sym (looked .is-start .ensures) ∙ not-false _ (first-at .if1 .left)) (sym (counted .few .ensures) ∙ not-false _ (c .if2 .left))
 
 pub check-entry-spec : {M : Type 1} → statement M
 check-entry-spec =

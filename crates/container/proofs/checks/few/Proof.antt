@@ -17,7 +17,9 @@ returns-3 : tie.Need-returns-3
 returns-3 c = sym (lt-leb (slotsOf (c .before .before .before .args .e)) 4096 (omega arith))
 
 returns-4 : tie.Need-returns-4
-returns-4 c = sym (lt-leb (slotsOf (c .before .before .before .before .args .e)) 4096 (omega arith))
+returns-4 c =
+    let start = c .before .before .before .before in
+    sym (lt-leb (slotsOf (start .args .e)) 4096 (omega arith))
 
 pub few-spec : {M : Type 1} → statement M
 few-spec = tie.close (tie.spec returns returns-2 returns-3 returns-4 (λ c. search needs) (λ c. search needs) (λ c. search needs) (λ c. refl))

@@ -22,7 +22,10 @@ sub-if2 : tie.Need-sub-if2
 sub-if2 c = search needs
 
 returns-2 : tie.Need-returns-2
-returns-2 c = list-short (now (c .before .before .before .before .before .args .s)) (c .before .before .before .before .before .args .at) (c .before .read .result) (c .before .read .ensures) (omega arith) (c .if2 .taken)
+returns-2 c =
+    let bytes-read = c .before in
+    let start = bytes-read .before .before .before .before in
+    list-short (now (start .args .s)) (start .args .at) (bytes-read .read .result) (bytes-read .read .ensures) (omega arith) (c .if2 .taken)
 
 mul-t5 : tie.Need-mul-t5
 mul-t5 c = search needs
@@ -31,7 +34,10 @@ add-t8 : tie.Need-add-t8
 add-t8 c = search needs
 
 returns-3 : tie.Need-returns-3
-returns-3 c = list-there (now (c .before .before .before .before .before .args .s)) (c .before .before .before .before .before .args .at) (c .before .read .result) (c .before .read .ensures) (omega arith) (c .if2 .left)
+returns-3 c =
+    let bytes-read = c .before in
+    let start = bytes-read .before .before .before .before in
+    list-there (now (start .args .s)) (start .args .at) (bytes-read .read .result) (bytes-read .read .ensures) (omega arith) (c .if2 .left)
 
 pub counted-at-spec : {M : Type 1} → statement M
 counted-at-spec =

@@ -29,11 +29,19 @@ enum-told c = search needs
 
 returns : tie.Need-returns
 unfolding offsetOf
-returns c = rw (refused-told (now (c .before .before .before .before .before .args .s)) _ (sym (c .before .d .given .1) ∙ c .before .before .before .read .ensures))
+returns c =
+    let told = c .before in
+    let bytes-read = told .before .before in
+    let start = bytes-read .before .before in
+    rw (refused-told (now (start .args .s)) _ (sym (told .d .given .1) ∙ bytes-read .read .ensures))
 
 -- what the search found decides
 searched : (c : tie.After-find) → offsetBy (c .find .result) ≡ offsetOf (c .before .before .before .before .before .before .args .selector) (readOf (now (c .before .before .before .before .before .before .args .s)))
-searched c = let s = now (c .before .before .before .before .before .before .args .s) in offset-told s (c .before .before .before .before .before .before .args .selector) _ _ (read-told s _ (sym (c .before .before .d2 .given .1) ∙ c .before .before .before .before .read .ensures)) (c .find .ensures)
+searched c =
+    let told-done = c .before .before in
+    let bytes-read = told-done .before .before in
+    let start = bytes-read .before .before in
+    let s = now (start .args .s) in offset-told s (start .args .selector) _ _ (read-told s _ (sym (told-done .d2 .given .1) ∙ bytes-read .read .ensures)) (c .find .ensures)
 
 returns-2 : tie.Need-returns-2
 returns-2 c = let f = c .before .before .before in ap offsetBy (sym (c .before .f .given .1)) ∙ searched f

@@ -34,10 +34,18 @@ returns c =
 
 -- the entry that a turn found
 entry-of : (c : tie.After-known-told Inv-loop μ-loop) → EntryFound (now (c .before .before .before .before .before .before .before .args .s)) (c .before .before .before .before .before .loop .at) (c .before .e .given .0 .0)
-entry-of c = entry-found _ (c .before .before .before .before .before .loop .at) _ (sym (c .before .e .given .1) ∙ c .before .before .before .entry-at .ensures)
+entry-of c =
+    let told = c .before in
+    let reading = told .before .before in
+    let turn = reading .before .before in
+    entry-found _ (turn .loop .at) _ (sym (told .e .given .1) ∙ reading .entry-at .ensures)
 
 returns-2 : tie.Need-returns-2 Inv-loop μ-loop
-returns-2 c = λ es t k. found-here _ _ _ _ _ _ (c .before .before .before .before .before .before .before .loop .inv) es t k (c .before .before .before .before .before .before .loop-test .taken) _ (entry-of (c .before .before)) (c .if1 .taken)
+returns-2 c =
+    let at-before = c .before in
+    let tested = at-before .before .before .before .before .before in
+    let turn = tested .before in
+    λ es t k. found-here _ _ _ _ _ _ (turn .loop .inv) es t k (tested .loop-test .taken) _ (entry-of (at-before .before)) (c .if1 .taken)
 
 sub-more : tie.Need-sub-more Inv-loop μ-loop
 sub-more c = omega arith
@@ -46,7 +54,11 @@ loop-less : tie.Need-loop-less Inv-loop μ-loop
 loop-less c = omega arith
 
 loop-again : tie.Need-loop-again Inv-loop μ-loop
-loop-again c = search-on _ _ _ _ _ _ (c .before .before .before .before .before .before .before .loop .inv) (c .before .before .before .before .before .before .loop-test .taken) _ (entry-of (c .before .before)) (c .if1 .left)
+loop-again c =
+    let at-before = c .before in
+    let tested = at-before .before .before .before .before .before in
+    let turn = tested .before in
+    search-on _ _ _ _ _ _ (turn .loop .inv) (tested .loop-test .taken) _ (entry-of (at-before .before)) (c .if1 .left)
 
 returns-3 : tie.Need-returns-3 Inv-loop μ-loop
 returns-3 c = λ es t k. none-left _ _ _ _ _ _ (c .before .loop .inv) es t k (c .loop-test .left)

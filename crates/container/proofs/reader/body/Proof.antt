@@ -22,7 +22,11 @@ sub-if2 : tie.Need-sub-if2
 sub-if2 c = search needs
 
 returns-2 : tie.Need-returns-2
-returns-2 c = let s = now (c .before .before .before .before .args .s) in cut s (no-code s (c .before .read .result) (c .before .read .ensures) (c .before .before .if1 .left) (c .if2 .taken))
+returns-2 c =
+    let bytes-read = c .before in
+    let first = bytes-read .before in
+    let start = first .before .before in
+    let s = now (start .args .s) in cut s (no-code s (bytes-read .read .result) (bytes-read .read .ensures) (first .if1 .left) (c .if2 .taken))
 
 add-counted-at : tie.Need-add-counted-at
 add-counted-at c = search needs

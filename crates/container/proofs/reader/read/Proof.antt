@@ -13,13 +13,22 @@ read-requires : tie.Need-read-requires
 read-requires c κs = search needs
 
 returns-2 : tie.Need-returns-2
-returns-2 c = bad-tag (now (c .before .before .before .before .args .s)) (c .before .before .if1 .left) (λ e. c .if2 .taken (c .before .read .ensures ∙ e))
+returns-2 c =
+    let bytes-read = c .before in
+    let first = bytes-read .before in
+    let start = first .before .before in
+    bad-tag (now (start .args .s)) (first .if1 .left) (λ e. c .if2 .taken (bytes-read .read .ensures ∙ e))
 
 body-requires : tie.Need-body-requires
 body-requires c κs = search needs
 
 returns-3 : tie.Need-returns-3
-returns-3 c = c .body .ensures ∙ good-tag (now (c .before .before .before .before .before .args .s)) (c .before .before .before .if1 .left) (sym (c .before .before .read .ensures) ∙ c .before .if2 .left)
+returns-3 c =
+    let second = c .before in
+    let bytes-read = second .before in
+    let first = bytes-read .before in
+    let start = first .before .before in
+    c .body .ensures ∙ good-tag (now (start .args .s)) (first .if1 .left) (sym (bytes-read .read .ensures) ∙ second .if2 .left)
 
 pub read-spec : {M : Type 1} → statement M
 read-spec = tie.close (tie.spec returns read-requires returns-2 body-requires returns-3)

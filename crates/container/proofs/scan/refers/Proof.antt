@@ -15,13 +15,27 @@ returns : tie.Need-returns
 returns c = refers-const (c .before .before .before .args .i) _ (c .before .before .parts-of .ensures) (c .before .byte .result) (c .before .byte .ensures) (c .match .keys1)
 
 returns-2 : tie.Need-returns-2
-returns-2 c = refers-target (c .before .before .before .before .before .args .i) _ (c .before .before .before .before .parts-of .ensures) (c .before .before .before .byte .result) (c .before .before .before .byte .ensures) (omega arith) (omega arith)
+returns-2 c =
+    let first-byte = c .before .before .before in
+    let taken = first-byte .before in
+    let start = taken .before in
+    refers-target (start .args .i) _ (taken .parts-of .ensures) (first-byte .byte .result) (first-byte .byte .ensures) (omega arith) (omega arith)
 
 returns-3 : tie.Need-returns-3
-returns-3 c = refers-nothing (c .before .before .before .before .args .i) _ (c .before .before .before .parts-of .ensures) (c .before .before .byte .result) (c .before .before .byte .ensures) (c .before .match .rest .1) (λ h. omega arith)
+returns-3 c =
+    let arm = c .before in
+    let first-byte = arm .before in
+    let taken = first-byte .before in
+    let start = taken .before in
+    refers-nothing (start .args .i) _ (taken .parts-of .ensures) (first-byte .byte .result) (first-byte .byte .ensures) (arm .match .rest .1) (λ h. omega arith)
 
 returns-4 : tie.Need-returns-4
-returns-4 c = refers-nothing (c .before .before .before .before .before .args .i) _ (c .before .before .before .before .parts-of .ensures) (c .before .before .before .byte .result) (c .before .before .before .byte .ensures) (c .before .before .match .rest .1) (λ h. omega arith)
+returns-4 c =
+    let arm = c .before .before in
+    let first-byte = arm .before in
+    let taken = first-byte .before in
+    let start = taken .before in
+    refers-nothing (start .args .i) _ (taken .parts-of .ensures) (first-byte .byte .result) (first-byte .byte .ensures) (arm .match .rest .1) (λ h. omega arith)
 
 pub refers-spec : {M : Type 1} → statement M
 refers-spec =

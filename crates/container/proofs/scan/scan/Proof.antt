@@ -47,7 +47,9 @@ returns : tie.Need-returns Inv-loop μ-loop
 returns c = let a = c .enum-told .given .1 in let b = c .before .before .before .d2 .given .1 in absurd (let z : _≡_ {A = ℕ} 0 1 = cc in omega arith)
 
 same-length-2 : tie.Need-same-length-2 Inv-loop μ-loop
-same-length-2 c = c .before .before .before .before .before .before .before .before .loop .inv .size
+same-length-2 c =
+    let turn = c .before .before .before .before .before .before .before .before in
+    turn .loop .inv .size
 
 returns-2 : tie.Need-returns-2 Inv-loop μ-loop
 unfolding ended
@@ -71,23 +73,40 @@ enum-known-k c = search needs
 
 -- the instruction that a turn decoded, and where
 decoded : (c : tie.After-index-of Inv-loop μ-loop) → decodeAt (now (c .before .before .before .before .before .before .before .before .before .before .before .before .before .before .args .code)) (c .before .before .before .before .before .before .before .before .before .before .before .loop .place) ≡ Done (c .before .before .before .before .before .before .before .d .given .0 .0) (c .before .before .before .before .before .before .before .d .given .0 .1 .0)
-decoded c = sym (c .before .before .before .before .before .before .before .before .before .decode .ensures) ∙ c .before .before .before .before .before .before .before .d .given .1
+decoded c =
+    let told = c .before .before .before .before .before .before .before in
+    let decoding = told .before .before in
+    sym (decoding .decode .ensures) ∙ told .d .given .1
 
 placed : (c : tie.After-index-of Inv-loop μ-loop) → Place (now (c .before .before .before .before .before .before .before .before .before .before .before .before .before .before .args .code)) (c .before .before .before .before .before .before .before .before .before .before .before .loop .place) (c .before .before .before .before .before .before .before .d .given .0 .0) (c .before .before .before .before .before .before .before .d .given .0 .1 .0)
-placed c = decode-place (now (c .before .before .before .before .before .before .before .before .before .before .before .before .before .before .args .code)) (c .before .before .before .before .before .before .before .before .before .before .before .loop .place) _ _ (decoded c)
+placed c =
+    let turn = c .before .before .before .before .before .before .before .before .before .before .before in
+    let start = turn .before .before .before in
+    decode-place (now (start .args .code)) (turn .loop .place) _ _ (decoded c)
 
 -- whether its constant stands
 index : (c : tie.After-index-of Inv-loop μ-loop) → c .index-of .result ≡ indexOf (refersTo (c .before .before .before .before .before .before .before .d .given .0 .0)) (c .before .before .before .before .before .before .before .before .before .before .before .before .before .before .args .consts)
-index c = c .index-of .ensures ∙ ap (λ (r : Refers). indexOf r (c .before .before .before .before .before .before .before .before .before .before .before .before .before .before .args .consts)) (c .before .refers .ensures)
+index c =
+    let referred = c .before in
+    let start = referred .before .before .before .before .before .before .before .before .before .before .before .before .before in
+    c .index-of .ensures ∙ ap (λ (r : Refers). indexOf r (start .args .consts)) (referred .refers .ensures)
 
 same-length-3 : tie.Need-same-length-3 Inv-loop μ-loop
-same-length-3 c = c .before .before .before .before .before .before .before .mark .kept .0 ∙ c .before .before .before .before .before .before .before .before .before .before .before .before .before .before .loop .inv .size
+same-length-3 c =
+    let marking = c .before .before .before .before .before .before .before in
+    let turn = marking .before .before .before .before .before .before .before in
+    marking .mark .kept .0 ∙ turn .loop .inv .size
 
 returns-3 : tie.Need-returns-3 Inv-loop μ-loop
 unfolding ended met
 returns-3 c =
-    let x = c .before .before .before in
-    scan-bad _ _ _ (c .before .before .before .before .before .before .before .before .before .before .before .before .before .before .loop .place) (c .before .before .before .before .before .before .before .before .before .before .before .before .before .before .loop .map) (c .before .before .before .before .before .before .before .before .before .before .before .before .before .before .loop .inv) (c .before .before .before .before .before .before .before .before .before .before .before .before .before .loop-test .taken) _ _ (decoded x) _ (c .before .before .before .before .before .before .before .mark .ensures) _ (sym (index x) ∙ c .before .k .given .1)
+    let at-k = c .before in
+    let at-before = at-k .before in
+    let marking = at-before .before .before .before .before .before in
+    let tested = marking .before .before .before .before .before .before in
+    let turn = tested .before in
+    let x = at-before .before in
+    scan-bad _ _ _ (turn .loop .place) (turn .loop .map) (turn .loop .inv) (tested .loop-test .taken) _ _ (decoded x) _ (marking .mark .ensures) _ (sym (index x) ∙ at-k .k .given .1)
 
 enum-told-2 : tie.Need-enum-told-2 Inv-loop μ-loop
 enum-told-2 c = search needs
@@ -100,8 +119,12 @@ loop-less c = let p = placed (c .before .before) in omega (arith, p .within, p .
 
 loop-again : tie.Need-loop-again Inv-loop μ-loop
 loop-again c =
-    let x = c .before .before in
-    scan-on _ _ _ (c .before .before .before .before .before .before .before .before .before .before .before .before .before .loop .place) (c .before .before .before .before .before .before .before .before .before .before .before .before .before .loop .map) (c .before .before .before .before .before .before .before .before .before .before .before .before .before .loop .inv) (c .before .before .before .before .before .before .before .before .before .before .before .before .loop-test .taken) _ _ (decoded x) _ (c .before .before .before .before .before .before .mark .ensures) (sym (index x) ∙ c .enum-told2 .given .1)
+    let at-before = c .before in
+    let marking = at-before .before .before .before .before .before in
+    let tested = marking .before .before .before .before .before .before in
+    let turn = tested .before in
+    let x = at-before .before in
+    scan-on _ _ _ (turn .loop .place) (turn .loop .map) (turn .loop .inv) (tested .loop-test .taken) _ _ (decoded x) _ (marking .mark .ensures) (sym (index x) ∙ c .enum-told2 .given .1)
 
 same-length-4 : tie.Need-same-length-4 Inv-loop μ-loop
 same-length-4 c = c .before .loop .inv .size

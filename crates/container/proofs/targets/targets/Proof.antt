@@ -34,7 +34,11 @@ enum-told : tie.Need-enum-told Inv-loop μ-loop
 enum-told c = search needs
 
 returns : tie.Need-returns Inv-loop μ-loop
-returns c = aim-refused _ _ (c .before .before .before .before .loop .place) (c .before .before .before .before .loop .inv) (c .before .before .before .loop-test .taken) _ (sym (c .before .before .decode .ensures) ∙ c .enum-told .given .1)
+returns c =
+    let decoding = c .before .before in
+    let tested = decoding .before in
+    let turn = tested .before in
+    aim-refused _ _ (turn .loop .place) (turn .loop .inv) (tested .loop-test .taken) _ (sym (decoding .decode .ensures) ∙ c .enum-told .given .1)
 
 refers-requires : tie.Need-refers-requires Inv-loop μ-loop
 refers-requires c κs = search needs
@@ -47,19 +51,32 @@ enum-known-t c = search needs
 
 -- the instruction that a turn decoded, and where
 decoded : (c : tie.After-target-of Inv-loop μ-loop) → decodeAt (now (c .before .before .before .before .before .before .before .before .before .before .args .code)) (c .before .before .before .before .before .before .before .loop .place) ≡ Done (c .before .before .before .i .given .0 .0) (c .before .before .before .i .given .0 .1 .0)
-decoded c = sym (c .before .before .before .before .before .decode .ensures) ∙ c .before .before .before .i .given .1
+decoded c =
+    let told = c .before .before .before in
+    let decoding = told .before .before in
+    sym (decoding .decode .ensures) ∙ told .i .given .1
 
 placed : (c : tie.After-target-of Inv-loop μ-loop) → Place (now (c .before .before .before .before .before .before .before .before .before .before .args .code)) (c .before .before .before .before .before .before .before .loop .place) (c .before .before .before .i .given .0 .0) (c .before .before .before .i .given .0 .1 .0)
-placed c = decode-place (now (c .before .before .before .before .before .before .before .before .before .before .args .code)) (c .before .before .before .before .before .before .before .loop .place) _ _ (decoded c)
+placed c =
+    let turn = c .before .before .before .before .before .before .before in
+    let start = turn .before .before .before in
+    decode-place (now (start .args .code)) (turn .loop .place) _ _ (decoded c)
 
 -- whether its target is marked
 aimed : (c : tie.After-target-of Inv-loop μ-loop) → c .target-of .result ≡ targetOf (refersTo (c .before .before .before .i .given .0 .0)) (marked (now (c .before .before .before .before .before .before .before .before .before .before .args .map)))
-aimed c = c .target-of .ensures ∙ ap (λ (r : Refers). targetOf r (marked (now (c .before .before .before .before .before .before .before .before .before .before .args .map)))) (c .before .refers .ensures)
+aimed c =
+    let referred = c .before in
+    let start = referred .before .before .before .before .before .before .before .before .before in
+    c .target-of .ensures ∙ ap (λ (r : Refers). targetOf r (marked (now (start .args .map)))) (referred .refers .ensures)
 
 returns-2 : tie.Need-returns-2 Inv-loop μ-loop
 returns-2 c =
-    let x = c .before .before .before in
-    aim-bad _ _ (c .before .before .before .before .before .before .before .before .before .before .loop .place) (c .before .before .before .before .before .before .before .before .before .before .loop .inv) (c .before .before .before .before .before .before .before .before .before .loop-test .taken) _ _ (decoded x) _ (sym (c .before .t .given .1) ∙ aimed x)
+    let told-t = c .before in
+    let at-before = told-t .before in
+    let tested = at-before .before .before .before .before .before .before .before in
+    let turn = tested .before in
+    let x = at-before .before in
+    aim-bad _ _ (turn .loop .place) (turn .loop .inv) (tested .loop-test .taken) _ _ (decoded x) _ (sym (told-t .t .given .1) ∙ aimed x)
 
 enum-told-2 : tie.Need-enum-told-2 Inv-loop μ-loop
 enum-told-2 c = search needs
@@ -72,8 +89,11 @@ loop-less c = let p = placed (c .before .before) in omega (arith, p .within, p .
 
 loop-again : tie.Need-loop-again Inv-loop μ-loop
 loop-again c =
-    let x = c .before .before in
-    aim-on _ _ (c .before .before .before .before .before .before .before .before .before .loop .place) (c .before .before .before .before .before .before .before .before .before .loop .inv) (c .before .before .before .before .before .before .before .before .loop-test .taken) _ _ (decoded x) (sym (c .enum-told2 .given .1) ∙ aimed x)
+    let at-before = c .before in
+    let tested = at-before .before .before .before .before .before .before .before in
+    let turn = tested .before in
+    let x = at-before .before in
+    aim-on _ _ (turn .loop .place) (turn .loop .inv) (tested .loop-test .taken) _ _ (decoded x) (sym (c .enum-told2 .given .1) ∙ aimed x)
 
 returns-3 : tie.Need-returns-3 Inv-loop μ-loop
 returns-3 c = aim-end _ _ (c .before .loop .place) (c .before .loop .inv) (c .loop-test .left)

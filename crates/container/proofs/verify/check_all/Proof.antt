@@ -12,13 +12,20 @@ returns-2 : tie.Need-returns-2
 returns-2 c = λ x a. many-consts _ _ _ x a (c .before .before .if1 .left) (c .if2 .taken)
 
 returns-3 : tie.Need-returns-3
-returns-3 c = λ x a. many-entries _ _ _ x a (c .before .before .before .before .if1 .left) (c .before .before .if2 .left) (c .if3 .taken)
+returns-3 c =
+    let second = c .before .before in
+    let first = second .before .before in
+    λ x a. many-entries _ _ _ x a (first .if1 .left) (second .if2 .left) (c .if3 .taken)
 
 check-code-requires : tie.Need-check-code-requires
 check-code-requires c κs = search needs
 
 returns-4 : tie.Need-returns-4
-returns-4 c = λ x a. c .check-code .ensures x a (code-small _ _ _ x a (c .before .before .before .before .before .if1 .left)) ∙ within-sizes _ _ _ x a (c .before .before .before .before .before .if1 .left) (c .before .before .before .if2 .left) (c .before .if3 .left)
+returns-4 c =
+    let third = c .before in
+    let second = third .before .before in
+    let first = second .before .before in
+    λ x a. c .check-code .ensures x a (code-small _ _ _ x a (first .if1 .left)) ∙ within-sizes _ _ _ x a (first .if1 .left) (second .if2 .left) (third .if3 .left)
 
 pub check-all-spec : {M : Type 1} → statement M
 check-all-spec = tie.close (tie.spec returns returns-2 returns-3 check-code-requires returns-4)

@@ -31,16 +31,24 @@ check-rest-requires c κs = search needs
 
 returns : tie.Need-returns
 unfolding codeRefusal checkOf
-returns c = λ x a h. code-stopped _ _ _ x a _ (sym (c .before .r .given .1) ∙ c .before .before .before .before .scan .ensures .0)
+returns c =
+    let known = c .before in
+    let scanned = known .before .before .before in
+    λ x a h. code-stopped _ _ _ x a _ (sym (known .r .given .1) ∙ scanned .scan .ensures .0)
 
 returns-2 : tie.Need-returns-2
 unfolding codeRefusal checkOf
-returns-2 c = λ x a h. code-stopped _ _ _ x a _ (sym (c .before .r2 .given .1) ∙ c .before .before .before .before .scan .ensures .0)
+returns-2 c =
+    let at-r2 = c .before in
+    let scanned = at-r2 .before .before .before in
+    λ x a h. code-stopped _ _ _ x a _ (sym (at-r2 .r2 .given .1) ∙ scanned .scan .ensures .0)
 
 returns-3 : tie.Need-returns-3
 returns-3 c =
-    λ x a h. c .check-rest .ensures x _ a (code-held _ _ _ x a 8192 _ (omega arith) (c .before .before .before .before .before .scan .ensures .1))
-    ∙ code-stopped _ _ _ x a _ (sym (c .before .before .enum-told .given .1) ∙ c .before .before .before .before .before .scan .ensures .0)
+    let unknown1 = c .before .before in
+    let scanned = unknown1 .before .before .before in
+    λ x a h. c .check-rest .ensures x _ a (code-held _ _ _ x a 8192 _ (omega arith) (scanned .scan .ensures .1))
+    ∙ code-stopped _ _ _ x a _ (sym (unknown1 .enum-told .given .1) ∙ scanned .scan .ensures .0)
 
 pub check-code-spec : {M : Type 1} → statement M
 check-code-spec =

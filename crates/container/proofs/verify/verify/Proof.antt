@@ -22,7 +22,11 @@ enum-known-d-2 c = search needs
 
 -- the container that was read
 told : (c : tie.After-known-told2) → ReadTold (now (c .before .before .before .before .before .args .s)) (c .before .d2 .given .0 .0)
-told c = read-told (now (c .before .before .before .before .before .args .s)) _ (sym (c .before .d2 .given .1) ∙ c .before .before .before .read .ensures)
+told c =
+    let told-done = c .before in
+    let bytes-read = told-done .before .before in
+    let start = bytes-read .before .before in
+    read-told (now (start .args .s)) _ (sym (told-done .d2 .given .1) ∙ bytes-read .read .ensures)
 
 add-end : tie.Need-add-end
 add-end c = omega (arith, code-within _ _ (told (c .before)))
@@ -47,17 +51,28 @@ enum-told c = search needs
 
 returns : tie.Need-returns
 unfolding verifiedOf
-returns c = rw (refused-told (now (c .before .before .before .before .before .args .s)) _ (sym (c .before .d .given .1) ∙ c .before .before .before .read .ensures))
+returns c =
+    let told = c .before in
+    let bytes-read = told .before .before in
+    let start = bytes-read .before .before in
+    rw (refused-told (now (start .args .s)) _ (sym (told .d .given .1) ∙ bytes-read .read .ensures))
 
 -- what the checks found decides
 checked : (c : tie.After-check-all) → verdict (c .check-all .result) (c .before .before .before .before .d2 .given .0 .0) ≡ verifiedOf (readOf (now (c .before .before .before .before .before .before .before .before .args .s)))
 checked c = let r = told (c .before .before .before) in verdict-is _ _ r _ (c .check-all .ensures _ (laid _ _ r))
 
 returns-2 : tie.Need-returns-2
-returns-2 c = let k = c .before .before .before in ap (λ (x : Check). verdict x (c .before .before .before .before .before .before .before .d2 .given .0 .0)) (sym (c .before .c .given .1)) ∙ checked k
+returns-2 c =
+    let at-c = c .before in
+    let at-before = at-c .before in
+    let told-done = at-before .before .before .before .before .before in
+    let k = at-before .before in ap (λ (x : Check). verdict x (told-done .d2 .given .0 .0)) (sym (at-c .c .given .1)) ∙ checked k
 
 returns-3 : tie.Need-returns-3
-returns-3 c = let k = c .before .before in ap (λ (x : Check). verdict x (c .before .before .before .before .before .before .d2 .given .0 .0)) (sym (c .enum-told .given .1)) ∙ checked k
+returns-3 c =
+    let at-before = c .before in
+    let told-done = at-before .before .before .before .before .before in
+    let k = at-before .before in ap (λ (x : Check). verdict x (told-done .d2 .given .0 .0)) (sym (c .enum-told .given .1)) ∙ checked k
 
 pub verify-spec : {M : Type 1} → statement M
 verify-spec =

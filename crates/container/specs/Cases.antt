@@ -2,14 +2,14 @@
 use mathlib.Core.Path.{_≡_, refl}
 use mathlib.Core.List.{List, [], _∷_}
 use Prim.Native.Nat.{ℕ}
-use Rattle.words.specs.Bytes.{num, numFrom, beBytes}
+use Rattle.words.specs.Bytes.{num, numFrom, beBytes, wordsOf}
 use Rattle.words.specs.Lists.{member}
 use Rattle.isa.specs.Table.{rowOf, find, opAt}
 use Rattle.isa.specs.Forms.{formOf, instrOf}
 use Rattle.isa.specs.Codec.{refusalIn, unless, operandsOf, afterOpcode, decodeList, decodeAt}
 use Rattle.isa.specs.Answers.{answer}
 use Rattle.container.specs.Canonical.{wordBytes, countedBytes, entryBytes, entriesBytes, canonical}
-use Rattle.container.specs.Reader.{part, number, wordsOf, counted, entry, entries, container, whole, done, readOf, layoutOf}
+use Rattle.container.specs.Reader.{part, number, counted, entry, entries, container, whole, done, readOf, layoutOf}
 use Rattle.container.specs.Starts.{refersTo, ended, met, unlessBad, walkBy, walk, walkOf, orElse, targetBy, badTarget}
 use Rattle.container.specs.Verify.{slotCount, entryRefusal, firstOf, entriesRefusal, targetRefusal, codeRefusal, verifyOf, verifiedBy, verifiedOf}
 use Rattle.container.specs.Offsets.{offsetIn, offsetOf}

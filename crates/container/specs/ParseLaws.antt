@@ -6,8 +6,8 @@ use native.Mathlib.Omega.{arith}
 use lib.ListN.{length, take, drop, length-drop}
 use lib.Seq.{drop-drop}
 use borrow.Author.Tests.{le-leb, lt-leb}
-use Rattle.words.specs.Bytes.{num}
-use Rattle.container.specs.Reader.{short, read, part, number, wordsOf, counted}
+use Rattle.words.specs.Bytes.{num, wordsOf}
+use Rattle.container.specs.Reader.{short, read, part, number, counted}
 
 pub length-words : (n : ℕ) (s : List ℕ) → length (wordsOf n s) ≡ n
 unfolding wordsOf

@@ -8,12 +8,12 @@ use lib.Dec.{leb}
 use lib.ListN.{length, take, drop, length-append}
 use lib.Seq.{take-at, drop-at}
 use borrow.Author.Tests.{le-leb, eq-eqb}
-use Rattle.words.specs.Bytes.{num, beBytes}
+use Rattle.words.specs.Bytes.{num, beBytes, wordsOf}
 use Rattle.words.specs.BytesLaws.{length-beBytes}
 use Rattle.words.specs.BytesTheorems.{read-back-all}
 use Rattle.container.specs.Container.{Entry, Container}
 use Rattle.container.specs.Canonical.{tag, wordBytes, countedBytes, entryBytes, entriesBytes, canonical, Words, Counted, WritableEntry, WritableEntries, Writable}
-use Rattle.container.specs.Reader.{read, part, number, wordsOf, counted, entry, entries, container, whole, done, readOf}
+use Rattle.container.specs.Reader.{read, part, number, counted, entry, entries, container, whole, done, readOf}
 
 part-back : (n : ℕ) (b t : List ℕ) → length b ≡ n → part n (b ++ t) ≡ read b t
 unfolding part

@@ -4,7 +4,7 @@ use Prim.Native.Nat.{ℕ, zero, suc, _+_, _*_}
 use lib.Dec.{leb, eqb}
 use lib.ListN.{length, take, drop}
 use Rattle.words.specs.Choice.{pick}
-use Rattle.words.specs.Bytes.{num}
+use Rattle.words.specs.Bytes.{num, wordsOf}
 use Rattle.container.specs.Container.{Entry, Container}
 use Rattle.container.specs.Canonical.{tag}
 use Rattle.container.specs.declared.reader.Layout.{Layout}
@@ -29,11 +29,6 @@ part n s = pick (leb n (length s)) (read (take n s) (drop n s)) short
 -- a number of w bytes
 unfoldable pub number : ℕ → List ℕ → Parsed ℕ
 number w s = andThen (part w s) (λ b t. read (num b) t)
-
--- the first n words of bytes
-unfoldable pub wordsOf : ℕ → List ℕ → List ℕ
-wordsOf zero s = []
-wordsOf (suc n) s = num (take 8 s) ∷ wordsOf n (drop 8 s)
 
 -- how many words, then the words
 unfoldable pub counted : List ℕ → Parsed (List ℕ)

@@ -12,7 +12,8 @@ use borrow.Author.Tests.{ltb-true, ltb-false, le-ltb, lt-ltb, le-leb, lt-leb}
 use Rattle.container.specs.Container.{Entry, Container}
 use Rattle.container.specs.Canonical.{canonical}
 use Rattle.container.specs.Writer.{listed, withCode, toWrite, writtenOf, outputBy, outputOf}
-use Rattle.container.specs.WriterParts.{Laid, isSome, orEmpty, containerOf}
+use Rattle.words.specs.Laid.{Laid}
+use Rattle.container.specs.WriterParts.{isSome, orEmpty, containerOf}
 use Rattle.container.specs.declared.writer.Written.{Written}
 use Rattle.container.specs.declared.writer.Written.the-variants.{Done, BadList, NoRoom}
 
@@ -88,6 +89,6 @@ pub done : (o : Option Container) (out v : List ℕ) (c : Container) (r : ℕ) �
 unfolding outputOf outputBy
 done o out v c r e h l =
     let w = written-done o out c e h in
-    let n : r ≡ length (canonical c) = omega (arith, l .stops) in
+    let n : r ≡ length (canonical c) = omega (arith, l .end) in
     let z : 0 + length (canonical c) ≡ length (canonical c) = omega arith in
     (ap Done n ∙ sym w, rw (w, e) (l .is ∙ rw (z, take-all (length (canonical c)) (canonical c) (omega arith))))

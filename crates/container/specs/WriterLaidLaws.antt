@@ -7,18 +7,10 @@ use native.Mathlib.Numerals.{add-one}
 use lib.ListN.{length, drop, getD, length-append, drop-of-length-le}
 use lib.Seq.{paste, paste-zero, length-paste, drop-cons}
 use Rattle.words.specs.Bytes.{beBytes}
-use Rattle.words.specs.BytesLaws.{paste-paste, length-beBytes}
+use Rattle.words.specs.BytesLaws.{length-beBytes}
 use Rattle.container.specs.Canonical.{wordBytes}
-use Rattle.container.specs.WriterParts.{Laid}
-
--- one piece after the other is both
-laid-laid : (d u v a b : List ℕ) (at m n : ℕ) → at + length (a ++ b) ≤ length d → Laid d at a u m → Laid u m b v n → Laid d at (a ++ b) v n
-laid-laid d u v a b at m n h p q =
-    let k = length-append a b in
-    record {
-      stops = q .stops ∙ rw (p .stops, k) (omega arith);
-      is = paste-paste d u v a b at (omega arith) (p .is) (q .is ∙ ap (λ (x : ℕ). paste u x b (length b)) (p .stops));
-    }
+use Rattle.words.specs.Laid.{Laid}
+use Rattle.words.specs.LaidLaws.{laid-then}
 
 -- what is left to lay down at a place, and that with it all will be laid down
 pub record Rest (d : List ℕ) (at : ℕ) (all u : List ℕ) (m : ℕ) (rest : List ℕ) : Type 0 where
@@ -37,18 +29,18 @@ rest-turn {u = u} {v = v} {b = b} {rest = rest} {m = m} {n = n} r l =
     let k = length-append b rest in
     let s : length v ≡ length u = ap length (l .is) ∙ length-paste u m b (length b) (omega (arith, r .room, k)) (omega arith) in
     record {
-      room = rw (l .stops, s) (omega (arith, r .room, k));
-      then = λ w e q. r .then w e (laid-laid u v w b rest m n e (r .room) l q);
+      room = rw (l .end, s) (omega (arith, r .room, k));
+      then = λ w e q. r .then w e (laid-then u b rest v w m n e (omega (arith, r .room, k)) l q);
       same = s ∙ r .same;
     }
 
 pub rest-end : {d all u : List ℕ} {at m : ℕ} → Rest d at all u m [] → Laid d at all u m
-rest-end {u = u} {m = m} r = r .then u m (record { stops = omega arith; is = paste-zero u m [] })
+rest-end {u = u} {m = m} r = r .then u m (record { end = omega arith; is = paste-zero u m [] })
 
 pub laid-number : (d u : List ℕ) (at w v : ℕ) → u ≡ paste d at (beBytes w v) w → Laid d at (beBytes w v) u (at + w)
 laid-number d u at w v p =
     let k = length-beBytes w v in
-    record { stops = omega (arith, k); is = p ∙ ap (paste d at (beBytes w v)) (sym k) }
+    record { end = omega (arith, k); is = p ∙ ap (paste d at (beBytes w v)) (sym k) }
 
 -- words one after the other
 pub words-turn : (xs : List ℕ) (i : ℕ) → i < length xs → wordBytes (drop i xs) ≡ beBytes 8 (getD xs i 0) ++ wordBytes (drop (i + 1) xs)

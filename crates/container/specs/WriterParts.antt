@@ -5,14 +5,8 @@ use mathlib.Core.List.{List, []}
 use mathlib.Core.Option.{Option, some, none}
 use Prim.Native.Nat.{ℕ, _+_, _≤_}
 use lib.ListN.{length, take}
-use lib.Seq.{paste}
 use Rattle.container.specs.Container.{Entry, Container}
 use Rattle.container.specs.Writer.{allShort, slotsIn, listed}
-
--- bytes are laid down at a place and all else is as before; the end is where they stop
-pub record Laid (before : List ℕ) (place : ℕ) (bytes after : List ℕ) (end : ℕ) : Type 0 where
-  pub stops : end ≡ place + length bytes
-  pub is : after ≡ paste before place bytes (length bytes)
 
 -- a list begins with an entry: six numbers within four bytes, and the slots
 pub record Begins (xs : List ℕ) : Type 0 where

@@ -9,11 +9,11 @@ use lib.ListN.{length, take, drop, getD, length-drop, take-append-drop, List·ge
 use lib.Seq.{take-all, length-take-le, getD-append-add, getD-drop}
 use borrow.Author.Tests.{leb-true, ltb-true, ltb-false}
 use Rattle.words.specs.Choice.{pick}
-use Rattle.words.specs.Bytes.{num, beBytes, Bytes}
+use Rattle.words.specs.Bytes.{num, beBytes, Bytes, wordsOf}
 use Rattle.words.specs.BytesTheorems.{write-back, num-below}
 use Rattle.container.specs.Container.{Entry, Container}
 use Rattle.container.specs.Canonical.{tag, wordBytes, countedBytes, entryBytes, entriesBytes, canonical, Words, Counted, WritableEntry, WritableEntries, Writable}
-use Rattle.container.specs.Reader.{short, read, part, number, wordsOf, counted, entry, entries, container, done, readOf}
+use Rattle.container.specs.Reader.{short, read, part, number, counted, entry, entries, container, done, readOf}
 use Rattle.container.specs.ParseLaws.{length-words}
 use Rattle.container.specs.EntryTold.{both-read}
 use Rattle.container.specs.ReadTold.{read-done}

@@ -6,7 +6,8 @@ ghost use lib.ListN.{length, take, drop};
 ghost use Rattle.words.specs.Bytes.{beBytes};
 ghost use Rattle.container.specs.Canonical.{wordBytes, countedBytes, entryBytes, entriesBytes, canonical};
 ghost use Rattle.container.specs.Writer.{allShort, slotsIn, beginsEntry, entryIn, entriesIn, listed, toWrite, writtenOf, outputOf};
-ghost use Rattle.container.specs.WriterParts.{Laid, Begins, isSome, orEmpty, containerOf};
+ghost use Rattle.words.specs.Laid.{Laid};
+ghost use Rattle.container.specs.WriterParts.{Begins, isSome, orEmpty, containerOf};
 
 pub enum Written {
     Done(usize),

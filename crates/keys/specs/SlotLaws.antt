@@ -7,41 +7,41 @@ use native.Mathlib.Omega.{arith}
 use lib.ListN.{length, take, drop, replicate, take-append-drop, length-drop}
 use lib.Seq.{drop-drop, getD-drop, take-all}
 use borrow.Author.Tests.{eq-eqb, ne-eqb}
-use Rattle.words.specs.Bytes.{num, numFrom, Bytes}
+use Rattle.words.specs.Bytes.{num, numFrom, Bytes, wordsOf}
 use Rattle.words.specs.BytesTheorems.{num-below}
 use Rattle.words.specs.Lists.{member}
 use Rattle.tables.specs.Order.{orderOf}
 use Rattle.tables.specs.OrderLaws.{order-equal, equal-is}
 use Rattle.tables.specs.declared.order.Order.{Order}
 use Rattle.tables.specs.declared.order.Order.the-variants.{Equal}
-use Rattle.keys.specs.Slots.{words, slots}
+use Rattle.keys.specs.Slots.{slots}
 
 -- ---- a number among slots: what is left decides
 
 module _ (n i x : ℕ) (s : List ℕ) where
-  words-on : i < n → words (n - i) (drop (i * 8) s) ≡ num (take 8 (drop (i * 8) s)) ∷ words (n - (i + 1)) (drop ((i + 1) * 8) s)
-  unfolding words
+  words-on : i < n → wordsOf (n - i) (drop (i * 8) s) ≡ num (take 8 (drop (i * 8) s)) ∷ wordsOf (n - (i + 1)) (drop ((i + 1) * 8) s)
+  unfolding wordsOf
   words-on h =
       let j : n - i ≡ suc (n - (i + 1)) = omega arith in
       let d : i * 8 + 8 ≡ (i + 1) * 8 = omega arith in
       rw (j, drop-drop 8 (i * 8) s, d)
 
-  pub listed-start : i ≡ 0 → member x (words n s) ≡ member x (words (n - i) (drop (i * 8) s))
+  pub listed-start : i ≡ 0 → member x (wordsOf n s) ≡ member x (wordsOf (n - i) (drop (i * 8) s))
   listed-start e =
       let j : n - i ≡ n = omega arith in
       let d : i * 8 ≡ 0 = omega arith in
       rw (j, d)
 
-  pub listed-hit : i < n → num (take 8 (drop (i * 8) s)) ≡ x → member x (words (n - i) (drop (i * 8) s)) ≡ true
+  pub listed-hit : i < n → num (take 8 (drop (i * 8) s)) ≡ x → member x (wordsOf (n - i) (drop (i * 8) s)) ≡ true
   unfolding member
   listed-hit h e = rw (words-on h, eq-eqb (num (take 8 (drop (i * 8) s))) x e)
 
-  pub listed-on : i < n → (num (take 8 (drop (i * 8) s)) ≡ x → ⊥) → member x (words (n - i) (drop (i * 8) s)) ≡ member x (words (n - (i + 1)) (drop ((i + 1) * 8) s))
+  pub listed-on : i < n → (num (take 8 (drop (i * 8) s)) ≡ x → ⊥) → member x (wordsOf (n - i) (drop (i * 8) s)) ≡ member x (wordsOf (n - (i + 1)) (drop ((i + 1) * 8) s))
   unfolding member
   listed-on h e = rw (words-on h, ne-eqb (num (take 8 (drop (i * 8) s))) x e)
 
-  pub listed-end : n ≤ i → member x (words (n - i) (drop (i * 8) s)) ≡ false
-  unfolding member words
+  pub listed-end : n ≤ i → member x (wordsOf (n - i) (drop (i * 8) s)) ≡ false
+  unfolding member wordsOf
   listed-end h = let j : n - i ≡ 0 = omega arith in rw j
 
 -- ---- a key of 32 bytes is a slot's if its first 24 bytes are 0
@@ -69,8 +69,8 @@ high-key key l h =
     rw (key-parts key) q
 
 -- no slot reaches past eight bytes
-no-word : (y n : ℕ) (s : List ℕ) → 18446744073709551616 ≤ y → Bytes s → n * 8 ≤ length s → member y (words n s) ≡ false
-unfolding member words
+no-word : (y n : ℕ) (s : List ℕ) → 18446744073709551616 ≤ y → Bytes s → n * 8 ≤ length s → member y (wordsOf n s) ≡ false
+unfolding member wordsOf
 no-word y zero s h b l = refl
 no-word y (suc n) s h b l =
     let w : num (take 8 s) < 18446744073709551616 = num-below 8 s (omega arith) b in

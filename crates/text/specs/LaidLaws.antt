@@ -1,26 +1,14 @@
--- Pieces laid one after the other are one piece. Assumes nothing.
+-- Numbers and fields laid down. Assumes nothing.
 use mathlib.Core.Path.{_≡_, sym, ap, _∙_}
-use mathlib.Core.List.{List, _++_}
+use mathlib.Core.List.{List}
 use Prim.Native.Nat.{ℕ, _+_, _≤_}
 use native.Mathlib.Omega.{arith}
-use lib.ListN.{length, drop, length-append}
-use lib.Seq.{paste, take-all}
-use Rattle.words.specs.BytesLaws.{paste-paste}
+use lib.ListN.{length, length-append}
+use lib.Seq.{paste}
 use Rattle.text.specs.Decimal.{lastDigits, digitCount, decimalOf, fieldOf}
 use Rattle.text.specs.DecimalLaws.{length-digits, count-most}
-use Rattle.text.specs.Laid.{Laid}
-
-pub laid-then : (d a b u v : List ℕ) (at r s : ℕ) → at + length a + length b ≤ length d → Laid d at a u r → Laid u r b v s → Laid d at (a ++ b) v s
-laid-then d a b u v at r s h x y = record {
-  end = omega (arith, x .end, y .end, length-append a b);
-  is = paste-paste d u v a b at h (x .is) (y .is ∙ ap (λ (k : ℕ). paste u k b (length b)) (x .end));
-}
-
--- what is laid from the front on stands there, and the rest after it
-pub laid-front : (d a u : List ℕ) (r : ℕ) → Laid d 0 a u r → u ≡ a ++ drop r d
-laid-front d a u r x =
-    let e : 0 + length a ≡ r = sym (x .end) in
-    x .is ∙ (λ i. take-all (length a) a (omega arith) i ++ drop (e i) d)
+use Rattle.words.specs.Laid.{Laid}
+use Rattle.words.specs.LaidLaws.{laid-then}
 
 -- the digits that a number takes are its decimal
 pub laid-digits : (d u : List ℕ) (at w n : ℕ) → w ≡ digitCount 20 n → u ≡ paste d at (lastDigits w n) w → Laid d at (decimalOf n) u (at + w)

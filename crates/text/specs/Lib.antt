@@ -1,4 +1,3 @@
 pub mod Decimal
-pub mod Laid
 pub mod DecimalLaws
 pub mod LaidLaws

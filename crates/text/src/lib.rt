@@ -4,7 +4,7 @@ ghost use Prim.Native.Nat.{_+_, _≤_, _<_};
 ghost use lib.ListN.{length};
 ghost use lib.Seq.{paste};
 ghost use Rattle.text.specs.Decimal.{lastDigits, digitCount, decimalOf, fieldOf};
-ghost use Rattle.text.specs.Laid.{Laid};
+ghost use Rattle.words.specs.Laid.{Laid};
 
 // How many decimal digits a number takes.
 fn digits(n: u64) -> usize

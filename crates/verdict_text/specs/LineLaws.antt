@@ -5,8 +5,9 @@ use Prim.Native.Nat.{ℕ, _+_, _≤_, _<_}
 use native.Mathlib.Omega.{arith}
 use lib.ListN.{length, length-append}
 use Rattle.text.specs.Decimal.{fieldOf}
-use Rattle.text.specs.Laid.{Laid}
-use Rattle.text.specs.LaidLaws.{laid-then, length-field}
+use Rattle.text.specs.LaidLaws.{length-field}
+use Rattle.words.specs.Laid.{Laid}
+use Rattle.words.specs.LaidLaws.{laid-then}
 use borrow.Author.Tests.{le-leb, lt-leb}
 use Rattle.isa.specs.Answers.{Answer, answer}
 use Rattle.container.specs.Reader.{readOf}

@@ -1,7 +1,7 @@
 // The line that verdict prints for a container.
 ghost use Prim.Native.Nat.{_≤_};
 ghost use lib.ListN.{length};
-ghost use Rattle.text.specs.Laid.{Laid};
+ghost use Rattle.words.specs.Laid.{Laid};
 ghost use Rattle.isa.specs.Answers.{answer};
 ghost use Rattle.verdict_text.specs.Line.{okLine, noLine, lineFor, lineOf};
 use container::reader::Layout;

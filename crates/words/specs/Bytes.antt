@@ -1,7 +1,7 @@
 -- Numbers as bytes, the highest first (document 01, Codec: numbers everywhere are big-endian).
 use mathlib.Core.List.{List, [], _∷_, _++_}
 use Prim.Native.Nat.{ℕ, zero, suc, _+_, _*_, _/_, _%_, _<_}
-use lib.ListN.{getD}
+use lib.ListN.{getD, take, drop}
 
 -- the number that bytes write after those of a number
 unfoldable pub numFrom : ℕ → List ℕ → ℕ
@@ -21,3 +21,8 @@ beBytes (suc w) v = beBytes w (v / 256) ++ (v % 256 ∷ [])
 -- every element is a byte
 abbrev pub Bytes : List ℕ → Type 0
 Bytes s = (k : ℕ) → getD s k 0 < 256
+
+-- the first n words of bytes, eight bytes each
+unfoldable pub wordsOf : ℕ → List ℕ → List ℕ
+wordsOf zero s = []
+wordsOf (suc n) s = num (take 8 s) ∷ wordsOf n (drop 8 s)

@@ -4,5 +4,7 @@ pub mod Lists
 pub mod Bytes
 pub mod BytesLaws
 pub mod BytesTheorems
+pub mod Laid
+pub mod LaidLaws
 pub mod Wide
 pub mod WideLaws

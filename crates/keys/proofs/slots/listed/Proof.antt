@@ -4,13 +4,13 @@ use Prim.Native.Nat.{_*_, _≤_, _-_}
 use native.Mathlib.Omega.{arith}
 use lib.ListN.{drop}
 use Rattle.words.specs.Lists.{member}
-use Rattle.keys.specs.Slots.{words}
+use Rattle.words.specs.Bytes.{wordsOf}
 use Rattle.keys.specs.SlotLaws.{listed-start, listed-hit, listed-on, listed-end}
 use Rattle.keys.proofs.slots.listed.Statement.{statement}
 use Rattle.keys.proofs.slots.listed.Tie as tie
 
 abbrev Inv-loop : tie.InvT-loop
-Inv-loop list x n i₀ i = (i ≤ n) × (member x (words n list) ≡ member x (words (n - i) (drop (i * 8) list)))
+Inv-loop list x n i₀ i = (i ≤ n) × (member x (wordsOf n list) ≡ member x (wordsOf (n - i) (drop (i * 8) list)))
 
 abbrev μ-loop : tie.MeasureT-loop
 μ-loop list x n i₀ i = n - i

@@ -20,12 +20,13 @@ has k rs = isSome (lookup k rs)
 abbrev pub putIf : Bool → Row → List Row → List Row
 putIf t x rs = pick t (insert x rs) rs
 
--- a slot's key is its number; a write right gives a read right
-unfoldable pub mayLoad : Env → Keys → ℕ → Bool
-mayLoad e s k = either (member k (e .reads)) (either (member k (e .writes)) (has k (s .may-read)))
+-- declared for writing, or among the keys that a Hash made writable; a slot's key is its number
+abbrev pub mayStore : (writes : List ℕ) (writable : List Row) → ℕ → Bool
+mayStore ws rs k = either (member k ws) (has k rs)
 
-unfoldable pub mayStore : Env → Keys → ℕ → Bool
-mayStore e s k = either (member k (e .writes)) (has k (s .may-write))
+-- declared for reading or for writing, or among the keys that a Hash made readable
+abbrev pub mayLoad : (reads writes : List ℕ) (readable : List Row) → ℕ → Bool
+mayLoad ds ws rs k = either (member k ds) (either (member k ws) (has k rs))
 
 unfoldable pub orZero : Option ℕ → ℕ
 orZero none = 0

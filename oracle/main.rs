@@ -1,8 +1,9 @@
-//! The QVM Rust as judge: `oracle codec|arith|verdict|stores`, records on standard input, a line each on standard output.
+//! The QVM Rust as judge: `oracle codec|arith|verdict|stores|key_steps`, records on standard input, a line each on standard output.
 
 mod arith;
 mod codec;
 mod input;
+mod key_steps;
 mod reader;
 mod stores;
 mod verdict;
@@ -17,8 +18,9 @@ fn main() -> io::Result<()> {
         "arith" => arith::line,
         "verdict" => verdict::line,
         "stores" => stores::line,
+        "key_steps" => key_steps::line,
         _ => {
-            eprintln!("usage: oracle codec|arith|verdict|stores");
+            eprintln!("usage: oracle codec|arith|verdict|stores|key_steps");
             std::process::exit(2);
         }
     };

@@ -1,4 +1,4 @@
-"""Records for the oracle: `python3 oracle/vectors.py codec|arith|verdict`, written to standard output."""
+"""Records for the oracle: `python3 oracle/vectors.py codec|arith|verdict|stores|key_steps`, written to standard output."""
 
 import itertools
 import random
@@ -359,6 +359,71 @@ def stores(source):
     yield record(9, bytes(32), 0)
 
 
+# key_steps
+
+SLOTS = 12
+LOAD, STORE, AUTHORISE, TELL = range(4)
+
+
+def slot_key(slot):
+    return bytes(24) + big(slot, 8)
+
+
+class KeyedRun:
+    """A head and records over a few keys, so that every key is met often and in many states."""
+
+    def __init__(self, source):
+        self.source = source
+        # Ranges that overlap, so that a slot is declared in several lists, one, or none.
+        self.lists = [[low + source.below(count) for _ in range(SLOTS)] for low, count in ((1, 12), (5, 24), (6, 8), (1, 8))]
+        self.declared = [slot_key(slot) for slot in self.lists[1]]
+        self.keys = [slot_key(slot) for slot in range(1, 16)]
+        self.keys += [with_byte(slot_key(9 + i), 23 - 8 * i, 1) for i in range(3)]
+        self.made = [source.bytes(32) for _ in range(9)] + [slot_key(40), bytes(32), b"\xff" * 32]
+
+    def value(self):
+        return self.source.pick([0, 0, 1, self.source.below(WORD)])
+
+    def table(self, most):
+        keys = self.keys + self.made
+        rows = {self.source.pick(keys): self.value() for _ in range(self.source.below(most))}
+        return [key + big(rows[key], 8) for key in sorted(rows)]
+
+    def record(self):
+        op = self.source.pick([LOAD, STORE, STORE, AUTHORISE])
+        if op == AUTHORISE:
+            return bytes([op]) + self.source.pick(self.made) + big(1 + self.source.below(16), 8)
+        keys = self.source.pick([self.declared, self.keys, self.made])
+        return bytes([op]) + self.source.pick(keys) + big(self.value(), 8)
+
+    def records(self, count):
+        tell = bytes([TELL]) + bytes(40)
+        for i in range(count):
+            yield self.record()
+            if i % 20 == 19:
+                yield tell
+
+    def bytes(self, present, store, loader, count):
+        head = bytes([present, len(store), len(loader)]) + b"".join(big(slot, 8) for slot in sum(self.lists, []))
+        run = b"".join([head, *store, *loader, *self.records(count)])
+        return big(len(run), 4) + run
+
+
+def key_steps(source):
+    """With and without a loader, over full and empty tables; then tables that do not rise."""
+    for i in range(30):
+        run = KeyedRun(source)
+        yield run.bytes(i % 3 > 0, run.table(12), run.table(24), 100)
+    run = KeyedRun(source)
+    low, high = sorted(run.keys[:2])
+    falling = [high + bytes(8), low + bytes(8)]
+    twice = [low + bytes(8), low + big(1, 8)]
+    for bad in (falling, twice):
+        yield run.bytes(1, bad, [], 20)
+        yield run.bytes(1, [], bad, 20)
+        yield run.bytes(0, [], bad, 20)
+
+
 if __name__ == "__main__":
-    makers = {"codec": codec, "arith": arith, "verdict": verdict, "stores": stores}
+    makers = {"codec": codec, "arith": arith, "verdict": verdict, "stores": stores, "key_steps": key_steps}
     sys.stdout.buffer.write(b"".join(makers[sys.argv[1]](Source())))

@@ -16,7 +16,7 @@ use super::verify::Check;
 use super::verify::VerifyError;
 
 // Whether an entry has at most 4096 slots in all.
-fn few(e: EntryLayout) -> bool
+pub fn few(e: EntryLayout) -> bool
     ensures { λ r. ⌜ r ≡ leb (slotsOf e) 4096 ⌝ }
 {
     let r = e.reads.count;

@@ -74,7 +74,7 @@ module _ (w n : ℕ) (t : List ℕ) (tb : Table w n t) (b : Bool) (x : Row) wher
 
 -- ---- zeroes after the rows stay
 
-drop-zeroes : (a b : ℕ) → drop a (replicate {A = ℕ} b 0) ≡ replicate (b - a) 0
+pub drop-zeroes : (a b : ℕ) → drop a (replicate {A = ℕ} b 0) ≡ replicate (b - a) 0
 drop-zeroes zero b = ap (λ (n : ℕ). replicate n 0) (let e : b ≡ b - 0 = omega arith in e)
 drop-zeroes (suc a) zero = ap (λ (n : ℕ). replicate n 0) (let e : 0 ≡ 0 - suc a = omega arith in e)
 drop-zeroes (suc a) (suc b) = drop-zeroes a b ∙ ap (λ (n : ℕ). replicate n 0) (let e : b - a ≡ suc b - suc a = omega arith in e)

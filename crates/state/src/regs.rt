@@ -29,7 +29,7 @@ pub enum Outcome {
 }
 
 // A register, read where it stands; past the last 0.
-fn read(r: &[u64], i: u8) -> u64
+pub fn read(r: &[u64], i: u8) -> u64
     ensures { λ v. ⌜ v ≡ getD (now (r .entry)) i 0 ⌝ }
 {
     let k = i as usize;

@@ -1,0 +1,17 @@
+-- `wipe` meets its contract. Assumes nothing.
+use borrow.Author.Needs.{needs}
+use Rattle.interp.specs.BufferLaws.{all-wiped}
+use Rattle.interp.proofs.buffers.wipe.Statement.{statement}
+use Rattle.interp.proofs.buffers.wipe.Tie as tie
+
+clear-requires : tie.Need-clear-requires
+clear-requires c κs = search needs
+
+same-length : tie.Need-same-length
+same-length c = search needs
+
+returns : tie.Need-returns
+returns c = all-wiped (c .before .before .before .before .before .args .t .now) _ (c .before .before .clear .ensures)
+
+pub wipe-spec : {M : Type 1} → statement M
+wipe-spec = tie.close (tie.spec clear-requires same-length returns)

@@ -1,0 +1,175 @@
+-- `enter` meets its contract. Assumes nothing.
+use borrow.Author.Needs.{needs}
+use native.Mathlib.Omega.{arith}
+use Rattle.interp.specs.EnterLaws.{within, launched, entered}
+use Rattle.interp.proofs.enter.enter.Statement.{statement}
+use Rattle.interp.proofs.enter.enter.Tie as tie
+
+add-code-end : tie.Need-add-code-end
+add-code-end c = let w = within _ _ _ _ _ _ _ _ _ (c .before .before .before .before .before .before .before .before .before .before .before .before .before .before .before .before .before .pre) in omega (arith, w .code, c .before .before .before .before .before .before .before .before .before .before .before .before .before .before .before .before .before .good)
+
+mul-consts-end : tie.Need-mul-consts-end
+mul-consts-end c = let w = within _ _ _ _ _ _ _ _ _ (c .before .before .before .before .before .before .before .before .before .before .before .before .before .before .before .before .before .before .pre) in omega (arith, w .consts, c .before .before .before .before .before .before .before .before .before .before .before .before .before .before .before .before .before .before .good)
+
+add-consts-end : tie.Need-add-consts-end
+add-consts-end c = let w = within _ _ _ _ _ _ _ _ _ (c .before .before .before .before .before .before .before .before .before .before .before .before .before .before .before .before .before .before .pre) in omega (arith, w .consts, c .before .before .before .before .before .before .before .before .before .before .before .before .before .before .before .before .before .before .good)
+
+mul-reads-end : tie.Need-mul-reads-end
+mul-reads-end c = let w = within _ _ _ _ _ _ _ _ _ (c .before .before .before .before .before .before .before .before .before .before .before .before .before .before .before .before .before .before .before .before .pre) in omega (arith, w .reads, c .before .before .before .before .before .before .before .before .before .before .before .before .before .before .before .before .before .before .before .before .good)
+
+add-reads-end : tie.Need-add-reads-end
+add-reads-end c = let w = within _ _ _ _ _ _ _ _ _ (c .before .before .before .before .before .before .before .before .before .before .before .before .before .before .before .before .before .before .before .before .pre) in omega (arith, w .reads, c .before .before .before .before .before .before .before .before .before .before .before .before .before .before .before .before .before .before .before .before .good)
+
+mul-writes-end : tie.Need-mul-writes-end
+mul-writes-end c = let w = within _ _ _ _ _ _ _ _ _ (c .before .before .before .before .before .before .before .before .before .before .before .before .before .before .before .before .before .before .before .before .before .before .pre) in omega (arith, w .writes, c .before .before .before .before .before .before .before .before .before .before .before .before .before .before .before .before .before .before .before .before .before .before .good)
+
+add-writes-end : tie.Need-add-writes-end
+add-writes-end c = let w = within _ _ _ _ _ _ _ _ _ (c .before .before .before .before .before .before .before .before .before .before .before .before .before .before .before .before .before .before .before .before .before .before .pre) in omega (arith, w .writes, c .before .before .before .before .before .before .before .before .before .before .before .before .before .before .before .before .before .before .before .before .before .before .good)
+
+mul-kreads-end : tie.Need-mul-kreads-end
+mul-kreads-end c = let w = within _ _ _ _ _ _ _ _ _ (c .before .before .before .before .before .before .before .before .before .before .before .before .before .before .before .before .before .before .before .before .before .before .before .before .pre) in omega (arith, w .kreads, c .before .before .before .before .before .before .before .before .before .before .before .before .before .before .before .before .before .before .before .before .before .before .before .before .good)
+
+add-kreads-end : tie.Need-add-kreads-end
+add-kreads-end c = let w = within _ _ _ _ _ _ _ _ _ (c .before .before .before .before .before .before .before .before .before .before .before .before .before .before .before .before .before .before .before .before .before .before .before .before .pre) in omega (arith, w .kreads, c .before .before .before .before .before .before .before .before .before .before .before .before .before .before .before .before .before .before .before .before .before .before .before .before .good)
+
+mul-kwrites-end : tie.Need-mul-kwrites-end
+mul-kwrites-end c = let w = within _ _ _ _ _ _ _ _ _ (c .before .before .before .before .before .before .before .before .before .before .before .before .before .before .before .before .before .before .before .before .before .before .before .before .before .before .pre) in omega (arith, w .kwrites, c .before .before .before .before .before .before .before .before .before .before .before .before .before .before .before .before .before .before .before .before .before .before .before .before .before .before .good)
+
+add-kwrites-end : tie.Need-add-kwrites-end
+add-kwrites-end c = let w = within _ _ _ _ _ _ _ _ _ (c .before .before .before .before .before .before .before .before .before .before .before .before .before .before .before .before .before .before .before .before .before .before .before .before .before .before .pre) in omega (arith, w .kwrites, c .before .before .before .before .before .before .before .before .before .before .before .before .before .before .before .before .before .before .before .before .before .before .before .before .before .before .good)
+
+first-run-requires : tie.Need-first-run-requires
+first-run-requires c κs = search needs
+
+sub-drive : tie.Need-sub-drive
+sub-drive c = search needs
+
+part-drive-start : tie.Need-part-drive-start
+part-drive-start c = search needs
+
+part-drive-end : tie.Need-part-drive-end
+part-drive-end c = within _ _ _ _ _ _ _ _ _ (c .before .before .before .before .before .before .before .before .before .before .before .before .before .before .before .before .before .before .before .before .before .before .before .before .before .before .before .before .pre) .code
+
+sub-drive-2 : tie.Need-sub-drive-2
+sub-drive-2 c = search needs
+
+part-drive-start-2 : tie.Need-part-drive-start-2
+part-drive-start-2 c = search needs
+
+part-drive-end-2 : tie.Need-part-drive-end-2
+part-drive-end-2 c = within _ _ _ _ _ _ _ _ _ (c .before .before .before .before .before .before .before .before .before .before .before .before .before .before .before .before .before .before .before .before .before .before .before .before .before .before .before .before .before .pre) .consts
+
+sub-drive-3 : tie.Need-sub-drive-3
+sub-drive-3 c = search needs
+
+part-drive-start-3 : tie.Need-part-drive-start-3
+part-drive-start-3 c = search needs
+
+part-drive-end-3 : tie.Need-part-drive-end-3
+part-drive-end-3 c = within _ _ _ _ _ _ _ _ _ (c .before .before .before .before .before .before .before .before .before .before .before .before .before .before .before .before .before .before .before .before .before .before .before .before .before .before .before .before .before .before .pre) .reads
+
+sub-drive-4 : tie.Need-sub-drive-4
+sub-drive-4 c = search needs
+
+part-drive-start-4 : tie.Need-part-drive-start-4
+part-drive-start-4 c = search needs
+
+part-drive-end-4 : tie.Need-part-drive-end-4
+part-drive-end-4 c = within _ _ _ _ _ _ _ _ _ (c .before .before .before .before .before .before .before .before .before .before .before .before .before .before .before .before .before .before .before .before .before .before .before .before .before .before .before .before .before .before .before .pre) .writes
+
+sub-drive-5 : tie.Need-sub-drive-5
+sub-drive-5 c = search needs
+
+part-drive-start-5 : tie.Need-part-drive-start-5
+part-drive-start-5 c = search needs
+
+part-drive-end-5 : tie.Need-part-drive-end-5
+part-drive-end-5 c = within _ _ _ _ _ _ _ _ _ (c .before .before .before .before .before .before .before .before .before .before .before .before .before .before .before .before .before .before .before .before .before .before .before .before .before .before .before .before .before .before .before .before .pre) .kreads
+
+sub-drive-6 : tie.Need-sub-drive-6
+sub-drive-6 c = search needs
+
+part-drive-start-6 : tie.Need-part-drive-start-6
+part-drive-start-6 c = search needs
+
+part-drive-end-6 : tie.Need-part-drive-end-6
+part-drive-end-6 c = within _ _ _ _ _ _ _ _ _ (c .before .before .before .before .before .before .before .before .before .before .before .before .before .before .before .before .before .before .before .before .before .before .before .before .before .before .before .before .before .before .before .before .before .pre) .kwrites
+
+drive-requires : tie.Need-drive-requires
+drive-requires c κs = launched _ _ _ _ _ _ _ _ _ (c .before .before .before .before .before .before .before .before .before .before .before .before .before .before .before .before .before .before .before .before .before .before .before .before .before .before .before .before .before .before .before .before .before .before .before .before .before .before .before .before .before .before .before .pre) _ (c .before .before .before .before .before .before .before .before .before .before .before .before .before .before .before .before .first-run .ensures)
+
+same-length : tie.Need-same-length
+same-length c = c .before .before .before .before .before .before .before .before .before .before .before .before .before .before .before .before .before .before .drive .kept .1 .1 .1 .1 .1 .1 .1 .1 .1 .1 .1 .1 .1 .0
+
+same-length-2 : tie.Need-same-length-2
+same-length-2 c = c .before .before .before .before .before .before .before .before .before .before .before .before .before .before .before .before .before .before .drive .kept .1 .1 .1 .1 .1 .1 .1 .1 .1 .1 .1 .1 .1 .1 .0
+
+same-length-3 : tie.Need-same-length-3
+same-length-3 c = c .before .before .before .before .before .before .before .before .before .before .before .before .before .before .before .before .before .before .drive .kept .1 .1 .1 .1 .1 .1 .1 .1 .1 .1 .1 .1 .1 .1 .1 .0
+
+same-length-4 : tie.Need-same-length-4
+same-length-4 c = c .before .before .before .before .before .before .before .before .before .before .before .before .before .before .before .before .before .before .drive .kept .1 .1 .1 .1 .1 .1 .1 .1 .1 .1 .1 .1 .1 .1 .1 .1 .0
+
+same-length-5 : tie.Need-same-length-5
+same-length-5 c = c .before .before .before .before .before .before .before .before .before .before .before .before .before .before .before .before .before .before .drive .kept .1 .1 .1 .1 .1 .1 .1 .1 .1 .1 .1 .1 .1 .1 .1 .1 .1 .0
+
+same-length-6 : tie.Need-same-length-6
+same-length-6 c = c .before .before .before .before .before .before .before .before .before .before .before .before .before .before .before .before .before .before .drive .kept .1 .1 .1 .1 .1 .1 .1 .1 .1 .1 .1 .1 .1 .1 .1 .1 .1 .1 .0
+
+same-length-7 : tie.Need-same-length-7
+same-length-7 c = c .before .before .before .before .before .before .before .before .before .before .before .before .before .before .before .before .before .before .drive .kept .1 .1 .1 .1 .1 .1 .1 .1 .1 .1 .1 .1 .1 .1 .1 .1 .1 .1 .1 .0
+
+same-length-8 : tie.Need-same-length-8
+same-length-8 c = c .before .before .before .before .before .before .before .before .before .before .before .before .before .before .before .before .before .before .drive .kept .1 .1 .1 .1 .1 .1 .1 .1 .1 .1 .1 .1 .1 .1 .1 .1 .1 .1 .1 .1 .0
+
+same-length-9 : tie.Need-same-length-9
+same-length-9 c = c .before .before .before .before .before .before .before .before .before .before .before .before .before .before .before .before .before .before .drive .kept .1 .1 .1 .1 .1 .1 .1 .1 .1 .1 .1 .1 .1 .1 .1 .1 .1 .1 .1 .1 .1 .0
+
+returns : tie.Need-returns
+returns c = λ x. entered _ _ _ _ _ _ _ _ _ x _ (c .before .before .before .before .before .before .before .before .before .before .before .before .before .before .before .before .before .before .before .before .before .before .before .before .before .before .before .before .before .before .before .before .before .before .before .first-run .ensures) _ _ (c .before .before .before .before .before .before .before .before .before .before .before .before .before .before .before .before .before .before .drive .ensures)
+
+pub enter-spec : {M : Type 1} → statement M
+enter-spec =
+    tie.close
+    (tie.spec
+    add-code-end
+    mul-consts-end
+    add-consts-end
+    mul-reads-end
+    add-reads-end
+    mul-writes-end
+    add-writes-end
+    mul-kreads-end
+    add-kreads-end
+    mul-kwrites-end
+    add-kwrites-end
+    first-run-requires
+    sub-drive
+    part-drive-start
+    part-drive-end
+    sub-drive-2
+    part-drive-start-2
+    part-drive-end-2
+    sub-drive-3
+    part-drive-start-3
+    part-drive-end-3
+    sub-drive-4
+    part-drive-start-4
+    part-drive-end-4
+    sub-drive-5
+    part-drive-start-5
+    part-drive-end-5
+    sub-drive-6
+    part-drive-start-6
+    part-drive-end-6
+    drive-requires
+    same-length
+    same-length-2
+    same-length-3
+    same-length-4
+    same-length-5
+    same-length-6
+    same-length-7
+    same-length-8
+    same-length-9
+    returns)

@@ -1,0 +1,46 @@
+-- `onward` meets its contract. Assumes nothing.
+use borrow.Author.Needs.{needs}
+use Rattle.interp.specs.FetchLaws.{price-of, onward-out, onward-far, onward-done}
+use Rattle.interp.proofs.fetch.onward.Statement.{statement}
+use Rattle.interp.proofs.fetch.onward.Tie as tie
+
+parts-of-requires : tie.Need-parts-of-requires
+parts-of-requires c κs = search needs
+
+price-requires : tie.Need-price-requires
+price-requires c κs = search needs
+
+pay-requires : tie.Need-pay-requires
+pay-requires c κs = search needs
+
+enum-known-paid : tie.Need-enum-known-paid
+enum-known-paid c = search needs
+
+enum-told : tie.Need-enum-told
+enum-told c = search needs
+
+returns : tie.Need-returns
+returns c = onward-out _ _ _ _ (price-of _ _ _ (c .before .before .before .before .parts-of .ensures) (c .before .before .before .price .ensures)) _ (c .before .before .pay .ensures) (c .enum-told .given .1)
+
+add-next : tie.Need-add-next
+add-next c = search needs
+
+returns-2 : tie.Need-returns-2
+returns-2 c = onward-far _ _ _ _ (price-of _ _ _ (c .before .before .before .before .before .before .before .parts-of .ensures) (c .before .before .before .before .before .before .price .ensures)) _ (c .before .before .before .before .before .pay .ensures) _ (c .before .before .before .paid .given .1) (c .if1 .taken)
+
+returns-3 : tie.Need-returns-3
+returns-3 c = onward-done _ _ _ _ (price-of _ _ _ (c .before .before .before .before .before .before .before .parts-of .ensures) (c .before .before .before .before .before .before .price .ensures)) _ (c .before .before .before .before .before .pay .ensures) _ (c .before .before .before .paid .given .1) (c .if1 .left)
+
+pub onward-spec : {M : Type 1} → statement M
+onward-spec =
+    tie.close
+    (tie.spec
+    parts-of-requires
+    price-requires
+    pay-requires
+    enum-known-paid
+    enum-told
+    returns
+    add-next
+    returns-2
+    returns-3)

@@ -1,0 +1,26 @@
+-- What a run starts from.
+use mathlib.Core.Path.{_≡_}
+use mathlib.Core.List.{List, _++_}
+use Prim.Native.Nat.{ℕ}
+use lib.ListN.{length, take, drop}
+use Rattle.container.specs.Marks.{Marks}
+use Rattle.keys.specs.Opening.{noRows}
+use Rattle.opening.specs.Opening.{Lent, startsOf}
+use Rattle.interp.specs.Call.{wiped}
+use Rattle.machine.specs.declared.run.Run.{Run}
+
+-- nothing stacked, known or posted, no reply used
+abbrev pub firstRun : (offset used limit : ℕ) → Run
+firstRun offset used limit = record { pc = offset; depth = 0; counts = noRows; log = 0; events = 0; posted = 0; keyed = 0; replies = 0; meter = record { used = used; limit = limit }; fetches = 0 }
+
+-- a is b with all buffers zeroed, then the starts marked and the preload loaded
+pub record Begins (code pre : List ℕ) (b a : Lent) : Type 0 where
+  pub memory : a .run .memory ≡ take (length (b .run .memory)) pre ++ drop (length pre) (wiped (b .run .memory))
+  pub stack : a .run .stack ≡ wiped (b .run .stack)
+  pub changes : a .run .keys .changes ≡ wiped (b .run .keys .changes)
+  pub fetched : a .run .keys .fetched ≡ wiped (b .run .keys .fetched)
+  pub readable : a .run .keys .may-read ≡ wiped (b .run .keys .may-read)
+  pub writable : a .run .keys .may-write ≡ wiped (b .run .keys .may-write)
+  pub paid : a .run .keys .paid ≡ wiped (b .run .keys .paid)
+  pub log : a .run .log ≡ wiped (b .run .log)
+  pub map : Marks (wiped (b .map)) (startsOf code) (a .map)

@@ -1,0 +1,32 @@
+-- An accepted opening and what it was made from.
+use mathlib.Core.Path.{_≡_}
+use mathlib.Core.List.{List}
+use Prim.Native.Nat.{ℕ}
+use lib.ListN.{length}
+use Rattle.container.specs.Reader.{readOf}
+use Rattle.crypto.specs.declared.check.Host.{Host}
+use Rattle.opening.specs.Opening.{Input, Lent, openingRead}
+use Rattle.opening.specs.Opened.{Found}
+use Rattle.opening.specs.declared.open.Opened.{Opened}
+use Rattle.interp.specs.Call.{called, running}
+use Rattle.interp.specs.declared.answer.Answer.{Answer}
+
+-- the input that was opened, that these are its bytes and numbers, and buffers of the right sizes
+pub record Entered (o : Opened) (limit : ℕ) (host : Host) (s st ld rp pre : List ℕ) (b : Lent) : Type 0 where
+  pub input : Input
+  pub found : Found input b o
+  pub container : input .container ≡ s
+  pub store : input .store ≡ st
+  pub loader : input .loader ≡ ld
+  pub replies : input .replies ≡ rp
+  pub preload : input .preload ≡ pre
+  pub limit-is : input .limit ≡ limit
+  pub ml : input .ml-signed ≡ host .«ml_signed»
+  pub slh : input .slh-signed ≡ host .«slh_signed»
+  pub memory-size : length (b .run .memory) ≡ 65536
+  pub stack-size : length (b .run .stack) ≡ 1024
+  pub map-size : length (b .map) ≡ 8192
+
+abbrev pub Enters : Opened → ℕ → Host → (s st ld rp pre : List ℕ) → Lent → Answer → Lent → Type 0
+Enters o limit host s st ld rp pre b r a =
+    (x : Entered o limit host s st ld rp pre b) → called r a ≡ running (openingRead (x .input) b (readOf (x .input .container))) b

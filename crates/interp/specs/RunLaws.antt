@@ -1,0 +1,209 @@
+-- The loop of a run: what is left to run decides, and each way out of a turn is the machine's. Assumes nothing.
+use mathlib.Core.Path.{_≡_, refl, sym, ap, _∙_}
+use mathlib.Core.Bool.{Bool, true, false}
+use mathlib.Core.List.{List}
+use Prim.Native.Nat.{ℕ, suc, _+_, _-_, _≤_, _<_}
+use native.Mathlib.Omega.{arith}
+use lib.ListN.{length, set, length-set, length-replicate}
+use Rattle.isa.specs.Table.{priceOf}
+use Rattle.isa.specs.Forms.{formOf}
+use Rattle.isa.specs.declared.instr.Instr.{Instr}
+use Rattle.state.specs.Regs.{cleared}
+use Rattle.state.specs.declared.regs.RegFile.{RegFile}
+use Rattle.keys.specs.Known.{Rooms}
+use Rattle.keys.specs.Bridge.{roomsOf}
+use Rattle.machine.specs.Machine.{Env, Machine}
+use Rattle.machine.specs.Steps.{Step, next, halt, fault}
+use Rattle.machine.specs.Turns.{stepOf, turnOf, endOf, runOf}
+use Rattle.machine.specs.Kept.{Keeps, step-keeps}
+use Rattle.machine.specs.Costs.{step-costs}
+use Rattle.machine.specs.Bridge.{Bufs, machineOf, Sound}
+use Rattle.machine.specs.Turned.{puts, Turned}
+use Rattle.machine.specs.declared.run.Run.{Run}
+use Rattle.machine.specs.declared.turn.Turn.{Turn}
+use Rattle.interp.specs.Fetched.{Told, Fetches}
+use Rattle.interp.specs.FetchLaws.{sound-at}
+use Rattle.interp.specs.Ties.{Parts, Suits, Ready, Steps}
+use Rattle.interp.specs.Runs.{Begun, Starts, HaltsIn, EndsAs, Runs}
+use Rattle.interp.specs.declared.fetch.Fetched.the-variants.{Done, Refused}
+use Rattle.interp.specs.declared.exec.Ended.{Ended}
+
+-- as many turns as the limit allows from a run's start
+abbrev pub turnsOf : Env → Run → ℕ
+turnsOf e r = suc (e .limit - r .meter .used)
+
+-- between turns: a sound state, sixteen registers, and the rest of the run is the whole run's
+pub record Going (e : Env) (p : Parts) (r₀ : Run) (b₀ : Bufs) (r : Run) (f : RegFile) (b : Bufs) : Type 0 where
+  pub sound : Sound e (p .replies) (r₀ .meter .used) r b
+  pub regs : length (f .r) ≡ 16
+  pub same : runOf (turnsOf e r₀) e (machineOf (p .replies) r₀ cleared b₀) ≡ runOf (turnsOf e r₀ - r .fetches) e (machineOf (p .replies) r f b)
+
+pub record Looping (p : Parts) (r₀ : Run) (b₀ : Bufs) (r : Run) (f : RegFile) (b : Bufs) : Type 0 where
+  pub going : (e : Env) → Begun e p r₀ b₀ → Going e p r₀ b₀ r f b
+
+pub loop-begins : (p : Parts) (r : Run) (b : Bufs) (f : RegFile) → f ≡ cleared → Looping p r b r f b
+loop-begins p r b f c = rw c (record {
+  going = λ e g.
+      let z : turnsOf e r - r .fetches ≡ turnsOf e r = omega (arith, g .none) in
+      record { sound = g .sound; regs = length-replicate {A = ℕ} 16 0; same = ap (λ (k : ℕ). runOf k e (machineOf (p .replies) r cleared b)) (sym z) };
+})
+
+-- a sound state with less used above the fetches
+lower : (e : Env) (s : List ℕ) (d d' : ℕ) (r : Run) (b : Bufs) → Sound e s d r b → d' ≤ d → Sound e s d' r b
+lower e s d d' r b so h = sound-at e s d d' r b (r .pc) (r .fetches) so (so .pc) (omega (arith, so .metered .above))
+
+module _ (p : Parts) (r₀ : Run) (b₀ : Bufs) (r : Run) (f : RegFile) (b : Bufs) (x : Looping p r₀ b₀ r f b) where
+  -- there is a turn left
+  turns-left : (e : Env) (g : Begun e p r₀ b₀) → (r .fetches < turnsOf e r₀) × (1 ≤ r₀ .meter .used)
+  turns-left e g =
+      let m = x .going e g .sound .metered in
+      (omega (arith, m .above, m .within), g .sound .metered .some)
+
+  pub fetch-fits : Starts p r₀ b₀ → r .fetches < r .meter .used
+  fetch-fits s = let m = x .going (s .env) (s .begun) .sound .metered in omega (arith, m .above, s .begun .sound .metered .some)
+
+  -- the run is what its next turn makes of it
+  one-turn : (e : Env) (g : Begun e p r₀ b₀) (t : Step) → turnOf e (machineOf (p .replies) r f b) ≡ t
+      → runOf (turnsOf e r₀) e (machineOf (p .replies) r₀ cleared b₀) ≡ endOf t (suc (r .fetches)) (runOf (turnsOf e r₀ - suc (r .fetches)) e)
+  unfolding runOf machineOf
+  one-turn e g t q =
+      let (l, _) = turns-left e g in
+      let z : turnsOf e r₀ - r .fetches ≡ suc (turnsOf e r₀ - suc (r .fetches)) = omega arith in
+      x .going e g .same ∙ ap (λ (k : ℕ). runOf k e (machineOf (p .replies) r f b)) z ∙ ap (λ (y : Step). endOf y (suc (r .fetches)) (runOf (turnsOf e r₀ - suc (r .fetches)) e)) q
+
+  -- what is used above the fetches, one less while an instruction is fetched
+  d : ℕ
+  d = r₀ .meter .used - 1
+
+  before : (e : Env) → Begun e p r₀ b₀ → Sound e (p .replies) (suc d) r b
+  unfolding d
+  before e g =
+      let (_, h) = turns-left e g in
+      let z : r₀ .meter .used ≡ suc (r₀ .meter .used - 1) = omega arith in
+      rw z at (x .going e g .sound)
+
+  pub loop-refused : (n a k : ℕ) → Fetches (p .code) r (Refused n a) → k ≡ r .fetches + 1 → Runs p r₀ b₀ (record { number = n; argument = a; fetches = k; run = r; file = f }) b
+  unfolding endOf
+  loop-refused n a k told c e g =
+      let (q, l) = told e (p .replies) d f b (g .suits .code) (before e g) in
+      let z : k ≡ suc (r .fetches) = omega (arith, c) in
+      rw (one-turn e g (fault n a) q) (refl, l, refl, z)
+
+  -- an instruction was fetched
+  module _ (i : Instr) (q : Run) (told : Fetches (p .code) r (Done i q)) where
+    at : (e : Env) → Begun e p r₀ b₀ → Told e (p .replies) d f b (suc (r .fetches)) (turnOf e (machineOf (p .replies) r f b)) (Done i q)
+    at e g = told e (p .replies) d f b (g .suits .code) (before e g)
+
+    pub step-ready : Starts p r₀ b₀ → Ready p q b
+    step-ready s = let y = at (s .env) (s .begun) in record { env = s .env; above = d + priceOf (formOf i .op); suits = s .begun .suits; sound = y .1 }
+
+    -- and stepped with
+    module _ (t : Turn) (a : Bufs) (st : Steps p i q (f .r) b a t) where
+      abbrev Came : Env → Step → Type 0
+      Came e y = Turned e (p .replies) (d + priceOf (formOf i .op)) f y t a
+
+      came : (e : Env) → Begun e p r₀ b₀ → Came e (stepOf e i (machineOf (p .replies) q f b))
+      came e g = st e (d + priceOf (formOf i .op)) (g .suits) (x .going e g .regs) (at e g .1)
+
+      pub loop-faults : (t .fault ≡ 0 → ⊥) → (y : Run) → Runs p r₀ b₀ (record { number = t .fault; argument = 0; fetches = q .fetches; run = y; file = f }) a
+      unfolding endOf
+      loop-faults h y e g = go (stepOf e i (machineOf (p .replies) q f b)) (at e g .0) (came e g)
+        where
+          go : (z : Step) → turnOf e (machineOf (p .replies) r f b) ≡ z → Came e z
+              → EndsAs e (p .replies) (runOf (turnsOf e r₀) e (machineOf (p .replies) r₀ cleared b₀)) (record { number = t .fault; argument = 0; fetches = q .fetches; run = y; file = f }) a
+          go (next m) z c = absurd (h (c .0))
+          go (halt m) z c = absurd (h (c .0))
+          go (fault n k) z c = rw (one-turn e g (fault n k) z) (c .0, c .1, sym (c .2), at e g .2)
+
+      pub loop-halts : t .fault ≡ 0 → t .halted ≡ true → (w : RegFile) → w ≡ puts (t .put) f → Runs p r₀ b₀ (record { number = 0; argument = 0; fetches = t .run .fetches; run = t .run; file = w }) a
+      unfolding machineOf endOf
+      loop-halts h k w u e g = go (stepOf e i (machineOf (p .replies) q f b)) (at e g .0) (came e g)
+        where
+          go : (z : Step) → turnOf e (machineOf (p .replies) r f b) ≡ z → Came e z
+              → EndsAs e (p .replies) (runOf (turnsOf e r₀) e (machineOf (p .replies) r₀ cleared b₀)) (record { number = 0; argument = 0; fetches = t .run .fetches; run = t .run; file = w }) a
+          go (next m) z c = let y = c .1 in absurd (let o : _≡_ {A = ℕ} 0 1 = cc in omega arith)
+          go (halt m) z c =
+              let l = c .2 in
+              rw (one-turn e g (halt m) z)
+              (record {
+                number = refl;
+                argument = refl;
+                fetches = ap (λ (y : Machine). y .fetches) (l .is);
+                is = rw u (l .is);
+                sound = lower e (p .replies) (d + priceOf (formOf i .op)) 0 (t .run) a (l .sound) (omega arith);
+              })
+          go (fault n y) z c = absurd (omega (arith, c .0, c .1))
+
+      -- on to the next turn
+      record Went (e : Env) : Type 0 where
+        machine : Machine
+        is : machineOf (p .replies) (t .run) (puts (t .put) f) a ≡ machine
+        sound : Sound e (p .replies) (d + priceOf (formOf i .op)) (t .run) a
+        turn : turnOf e (machineOf (p .replies) r f b) ≡ next machine
+        costs : 1 ≤ priceOf (formOf i .op)
+        counts : t .run .fetches ≡ suc (r .fetches)
+
+      went : t .fault ≡ 0 → t .halted ≡ false → (e : Env) → Begun e p r₀ b₀ → Went e
+      unfolding machineOf
+      went h k e g = go (stepOf e i (machineOf (p .replies) q f b)) refl (at e g .0) (came e g) (step-keeps e i (machineOf (p .replies) q f b))
+        where
+          go : (z : Step) → stepOf e i (machineOf (p .replies) q f b) ≡ z → turnOf e (machineOf (p .replies) r f b) ≡ z → Came e z → Keeps (machineOf (p .replies) q f b) z → Went e
+          go (next m) y z c n =
+              let l = c .2 in
+              record {
+                machine = m;
+                is = l .is;
+                sound = l .sound;
+                turn = z;
+                costs = step-costs e i (machineOf (p .replies) q f b) m y;
+                counts = ap (λ (o : Machine). o .fetches) (l .is) ∙ n .0 ∙ at e g .2;
+              }
+          go (halt m) y z c n = let o = c .1 in absurd (let w : _≡_ {A = ℕ} 0 1 = cc in omega arith)
+          go (fault j o) y z c n = absurd (omega (arith, c .0, c .1))
+
+      pub loop-goes : t .fault ≡ 0 → t .halted ≡ false → (w : RegFile) → w ≡ puts (t .put) f → Looping p r₀ b₀ (t .run) w a
+      unfolding d endOf
+      loop-goes h k w u = rw u (record {
+        going = λ e g.
+            let o = went h k e g in
+            let (_, some) = turns-left e g in
+            record {
+              sound = lower e (p .replies) (d + priceOf (formOf i .op)) (r₀ .meter .used) (t .run) a (o .sound) (omega (arith, o .costs));
+              regs = length-set (set (f .r) (t .put .d) (t .put .v)) (t .put .e) (t .put .w) ∙ length-set (f .r) (t .put .d) (t .put .v) ∙ x .going e g .regs;
+              same = one-turn e g (next (o .machine)) (o .turn) ∙ (λ j. runOf (turnsOf e r₀ - sym (o .counts) j) e (sym (o .is) j));
+            };
+      })
+
+      pub loop-shrinks : Starts p r₀ b₀ → t .fault ≡ 0 → t .halted ≡ false → suc (r₀ .meter .limit - r₀ .meter .used) - t .run .fetches < suc (r₀ .meter .limit - r₀ .meter .used) - r .fetches
+      loop-shrinks s h k =
+          let o = went h k (s .env) (s .begun) in
+          let (l, _) = turns-left (s .env) (s .begun) in
+          let e = s .begun .sound .metered .limit in
+          omega (arith, o .counts, l, e)
+
+-- the buffers stay as long as they were
+pub record Sizes (a b : Bufs) : Type 0 where
+  pub memory : length (a .memory) ≡ length (b .memory)
+  pub stack : length (a .stack) ≡ length (b .stack)
+  pub changes : length (a .keys .changes) ≡ length (b .keys .changes)
+  pub fetched : length (a .keys .fetched) ≡ length (b .keys .fetched)
+  pub readable : length (a .keys .may-read) ≡ length (b .keys .may-read)
+  pub writable : length (a .keys .may-write) ≡ length (b .keys .may-write)
+  pub paid : length (a .keys .paid) ≡ length (b .keys .paid)
+  pub log : length (a .log) ≡ length (b .log)
+
+pub loop-sizes : (p : Parts) (r₀ : Run) (b₀ : Bufs) (r : Run) (f : RegFile) (b : Bufs) → Looping p r₀ b₀ r f b → Starts p r₀ b₀ → Sizes b b₀
+loop-sizes p r₀ b₀ r f b x s =
+    let z = x .going (s .env) (s .begun) .sound .sized in
+    let z₀ = s .begun .sound .sized in
+    let q : roomsOf (b .keys) ≡ roomsOf (b₀ .keys) = sym (z .rooms) ∙ z₀ .rooms in
+    record {
+      memory = z .memory ∙ sym (z₀ .memory);
+      stack = z .stack ∙ sym (z₀ .stack);
+      changes = ap (λ (y : Rooms). y .changes) q;
+      fetched = ap (λ (y : Rooms). y .fetched) q;
+      readable = ap (λ (y : Rooms). y .may-read) q;
+      writable = ap (λ (y : Rooms). y .may-write) q;
+      paid = ap (λ (y : Rooms). y .paid) q;
+      log = sym (z .log) ∙ z₀ .log;
+    }

@@ -1,0 +1,12 @@
+// Opening and running a call.
+pub mod answer;
+mod begin;
+mod buffers;
+pub mod call;
+mod drive;
+mod enter;
+mod exec;
+mod fetch;
+mod finish;
+mod registers;
+mod step;

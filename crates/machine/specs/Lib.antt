@@ -1,0 +1,16 @@
+pub mod Machine
+pub mod Steps
+pub mod Actions
+pub mod MoveRules
+pub mod JumpRules
+pub mod StorageRules
+pub mod PostRules
+pub mod CryptoRules
+pub mod Turns
+pub mod Bridge
+pub mod Turned
+pub mod ToldLaws
+pub mod TurnLaws
+pub mod SoundLaws
+pub mod Kept
+pub mod Costs

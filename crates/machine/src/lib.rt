@@ -1,0 +1,4 @@
+// A run's state and what one turn does to it.
+pub mod action;
+pub mod run;
+pub mod turn;

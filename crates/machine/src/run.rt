@@ -1,0 +1,44 @@
+// What a run keeps by value; its registers stand apart, and its tables and log in lent bytes.
+ghost use mathlib.Core.Path.{_≡_};
+ghost use Rattle.machine.specs.Turned.{paidBy};
+use keys::counts::Counts;
+use meter::Charged;
+use meter::Meter;
+
+pub struct Run {
+    pub pc: u64,
+    pub depth: usize,
+    pub counts: Counts,
+    // Where the effect log ends, its events, and the bytes that its effects count.
+    pub log: usize,
+    pub events: u64,
+    pub posted: u64,
+    // The bytes that authorisations count.
+    pub keyed: u64,
+    // The replies that are used up.
+    pub replies: usize,
+    pub meter: Meter,
+    pub fetches: u64,
+}
+
+pub enum Paid {
+    Done(Run),
+    OutOfMeter,
+}
+
+impl Run {
+    // The run with a price paid, where the limit allows it.
+    pub fn pay(self, price: u64) -> Paid
+        ensures { λ r. ⌜ r ≡ paidBy self price ⌝ }
+    {
+        let m = self.meter.charge(price);
+        match m {
+            Charged::Paid(n) => {
+                let mut run = self;
+                run.meter = n;
+                Paid::Done(run)
+            }
+            Charged::OutOfMeter => Paid::OutOfMeter,
+        }
+    }
+}

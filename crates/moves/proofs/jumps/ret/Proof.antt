@@ -1,0 +1,44 @@
+-- `ret` meets its contract: the pop comes before the target. Assumes nothing.
+use borrow.Author.Needs.{needs}
+use denote.Ref.{now}
+use Rattle.machine.specs.JumpRules.{jumping}
+use Rattle.moves.specs.MoveLaws.{pop-some, pops-on, pops-not}
+use Rattle.moves.proofs.jumps.ret.Statement.{statement}
+use Rattle.moves.proofs.jumps.ret.Tie as tie
+
+pop-requires : tie.Need-pop-requires
+pop-requires c κs = c .before .before .pre
+
+enum-known-p : tie.Need-enum-known-p
+enum-known-p c = search needs
+
+sub-next : tie.Need-sub-next
+sub-next c = pop-some (now (c .before .before .before .before .before .before .before .args .stack)) (c .before .before .before .before .before .before .before .args .run .depth) _ _ (c .before .before .before .before .pop .ensures) (c .before .before .p .given .1)
+
+jump-requires : tie.Need-jump-requires
+jump-requires c κs = search needs
+
+enum-told : tie.Need-enum-told
+enum-told c = search needs
+
+stop-requires : tie.Need-stop-requires
+stop-requires c κs = search needs
+
+returns : tie.Need-returns
+returns c = λ x f mem lm h. pops-on x _ f mem _ _ (c .before .before .before .before .before .pop .ensures) (jumping (x .env)) _ _ (c .before .before .before .p .given .1) (c .jump .ensures x f mem _ lm h)
+
+returns-2 : tie.Need-returns-2
+returns-2 c = rw (c .stop .ensures) (λ x f mem lm h. pops-not x _ f mem _ _ (c .before .before .before .pop .ensures) (jumping (x .env)) (c .before .enum-told .given .1))
+
+pub ret-spec : {M : Type 1} → statement M
+ret-spec =
+    tie.close
+    (tie.spec
+    pop-requires
+    enum-known-p
+    sub-next
+    jump-requires
+    enum-told
+    stop-requires
+    returns
+    returns-2)

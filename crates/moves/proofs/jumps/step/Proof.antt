@@ -1,0 +1,129 @@
+-- `jumps::step` meets its contract: each arm is the rule of the jump that it is told. Assumes nothing.
+use borrow.Author.Needs.{needs}
+use Rattle.machine.specs.Steps.{next}
+use Rattle.machine.specs.JumpRules.{jumping, jumpOf}
+use Rattle.machine.specs.Bridge.{machineOf}
+use Rattle.moves.specs.MoveLaws.{goes-on}
+use Rattle.moves.specs.JumpLaws.{on-zero, on-other}
+use Rattle.moves.proofs.jumps.step.Statement.{statement}
+use Rattle.moves.proofs.jumps.step.Tie as tie
+
+enum-known-o : tie.Need-enum-known-o
+enum-known-o c = search needs
+
+cast-jump : tie.Need-cast-jump
+cast-jump c = search needs
+
+jump-requires : tie.Need-jump-requires
+jump-requires c κs = search needs
+
+enum-known-o-2 : tie.Need-enum-known-o-2
+enum-known-o-2 c = search needs
+
+read-requires : tie.Need-read-requires
+read-requires c κs = search needs
+
+go-on-requires : tie.Need-go-on-requires
+go-on-requires c κs = search needs
+
+returns : tie.Need-returns
+unfolding machineOf jumpOf
+returns c = rw (c .go-on .ensures, c .before .before .before .before .o2 .given .1) (λ x mem lm h. on-other x _ _ mem _ _ _ (c .before .before .read .ensures) (jumping (x .env) _) next _ (c .before .if1 .taken) (goes-on x _ _ mem _))
+
+cast-jump-2 : tie.Need-cast-jump-2
+cast-jump-2 c = search needs
+
+jump-requires-2 : tie.Need-jump-requires-2
+jump-requires-2 c κs = search needs
+
+enum-known-o-3 : tie.Need-enum-known-o-3
+enum-known-o-3 c = search needs
+
+read-requires-2 : tie.Need-read-requires-2
+read-requires-2 c κs = search needs
+
+go-on-requires-2 : tie.Need-go-on-requires-2
+go-on-requires-2 c κs = search needs
+
+returns-2 : tie.Need-returns-2
+unfolding machineOf jumpOf
+returns-2 c = rw (c .go-on2 .ensures, c .before .before .before .before .o3 .given .1) (λ x mem lm h. on-zero x _ _ mem _ _ _ (c .before .before .read2 .ensures) next (jumping (x .env) _) _ (c .before .if2 .taken) (goes-on x _ _ mem _))
+
+cast-jump-3 : tie.Need-cast-jump-3
+cast-jump-3 c = search needs
+
+jump-requires-3 : tie.Need-jump-requires-3
+jump-requires-3 c κs = search needs
+
+enum-known-o-4 : tie.Need-enum-known-o-4
+enum-known-o-4 c = search needs
+
+cast-call : tie.Need-cast-call
+cast-call c = search needs
+
+call-requires : tie.Need-call-requires
+call-requires c κs = search needs
+
+enum-told : tie.Need-enum-told
+enum-told c = search needs
+
+ret-requires : tie.Need-ret-requires
+ret-requires c κs = c .before .before .before .before .before .before .pre
+
+returns-3 : tie.Need-returns-3
+unfolding machineOf jumpOf
+returns-3 c = rw (c .before .before .o .given .1) (λ x mem. c .jump .ensures x _ mem _)
+
+returns-4 : tie.Need-returns-4
+unfolding machineOf jumpOf
+returns-4 c = rw (c .before .before .before .before .o2 .given .1) (λ x mem lm h. on-zero x _ _ mem _ _ _ (c .before .before .read .ensures) (jumping (x .env) _) next _ (c .before .if1 .left) (c .jump2 .ensures x _ mem _ lm h))
+
+returns-5 : tie.Need-returns-5
+unfolding machineOf jumpOf
+returns-5 c = rw (c .before .before .before .before .o3 .given .1) (λ x mem lm h. on-other x _ _ mem _ _ _ (c .before .before .read2 .ensures) next (jumping (x .env) _) _ (c .before .if2 .left) (c .jump3 .ensures x _ mem _ lm h))
+
+same-length : tie.Need-same-length
+same-length c = search needs
+
+returns-6 : tie.Need-returns-6
+unfolding machineOf jumpOf
+returns-6 c = rw (c .before .before .before .before .before .o4 .given .1) (λ x mem. c .before .before .call .ensures x _ mem)
+
+same-length-2 : tie.Need-same-length-2
+same-length-2 c = search needs
+
+returns-7 : tie.Need-returns-7
+unfolding machineOf jumpOf
+returns-7 c = rw (c .before .before .enum-told .given .1) (λ x mem. c .ret .ensures x _ mem)
+
+pub step-spec : {M : Type 1} → statement M
+step-spec =
+    tie.close
+    (tie.spec
+    enum-known-o
+    cast-jump
+    jump-requires
+    enum-known-o-2
+    read-requires
+    go-on-requires
+    returns
+    cast-jump-2
+    jump-requires-2
+    enum-known-o-3
+    read-requires-2
+    go-on-requires-2
+    returns-2
+    cast-jump-3
+    jump-requires-3
+    enum-known-o-4
+    cast-call
+    call-requires
+    enum-told
+    ret-requires
+    returns-3
+    returns-4
+    returns-5
+    same-length
+    returns-6
+    same-length-2
+    returns-7)

@@ -1,0 +1,9 @@
+pub mod Opening
+pub mod Opened
+pub mod Parts
+pub mod TableLaws
+pub mod OnlyLaws
+pub mod StartLaws
+pub mod StandingLaws
+pub mod SizeLaws
+pub mod OpenLaws

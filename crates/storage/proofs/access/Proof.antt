@@ -1,0 +1,152 @@
+-- `storage::access` meets its contract: the key's region decides, then the load or the store. Assumes nothing.
+use mathlib.Core.List.{List}
+use Prim.Native.Nat.{ℕ}
+use borrow.Author.Needs.{needs}
+use Rattle.state.specs.Regs.{file}
+use Rattle.state.specs.declared.regs.RegFile.{RegFile}
+use Rattle.keys.specs.Bridge.{Given, given}
+use Rattle.machine.specs.Bridge.{Bufs}
+use Rattle.storage.specs.Answered.{lentTo}
+use Rattle.storage.specs.RegionLaws.{key-ordered, key-ends, key-length, key-outside, load-inside, store-inside}
+use Rattle.storage.proofs.access.Statement.{statement}
+use Rattle.storage.proofs.access.Tie as tie
+
+abbrev S : tie.After-mem-region → tie.Start
+S c = c .before .before .before .before .before .before .before .before .before .before .before .before .before .before
+
+-- where the region was asked, once it is told to be a part
+abbrev R : tie.After-known-told → tie.After-mem-region
+R c = c .before .before .before
+
+abbrev F : tie.Start → RegFile
+F c = file (c .args .regs .now)
+
+abbrev G : tie.Start → (kr kw : List ℕ) → Given
+G c kr kw = let a = c .args in given (a .reads .now) (a .writes .now) kr kw (a .store .now) (a .loader .now)
+
+abbrev B : tie.Start → (stack log : List ℕ) → Bufs
+B c stack log = let a = c .args in lentTo (a .memory .now) stack (a .changes .now) (a .fetched .now) (a .readable .now) (a .writable .now) (a .paid .now) log
+
+key-register-requires : tie.Need-key-register-requires
+key-register-requires c κs = search needs
+
+read-requires : tie.Need-read-requires
+read-requires c κs = search needs
+
+mem-region-requires : tie.Need-mem-region-requires
+mem-region-requires c κs = search needs
+
+enum-known-region : tie.Need-enum-known-region
+enum-known-region c = search needs
+
+sub-key : tie.Need-sub-key
+sub-key c = key-ordered (S (R c) .args .memory .now) _ _ (R c .mem-region .ensures) _ _ (c .before .region .given .1)
+
+part-key-start : tie.Need-part-key-start
+part-key-start c = sub-key c
+
+part-key-end : tie.Need-part-key-end
+part-key-end c = key-ends (S (R c) .args .memory .now) _ _ (R c .mem-region .ensures) _ _ (c .before .region .given .1)
+
+enum-known-o : tie.Need-enum-known-o
+enum-known-o c = search needs
+
+load-key-requires : tie.Need-load-key-requires
+load-key-requires c κs =
+    let part = c .before .before .before .before .before .before in
+    let s = S (R part) in
+    (s .pre .0, s .pre .1, (s .args .writable .now, s .args .paid .now, s .pre .2), key-length (s .args .memory .now) _ _ (R part .mem-region .ensures) _ _ (part .before .region .given .1))
+
+enum-known-o-2 : tie.Need-enum-known-o-2
+enum-known-o-2 c = search needs
+
+read-requires-2 : tie.Need-read-requires-2
+read-requires-2 c κs = search needs
+
+store-key-requires : tie.Need-store-key-requires
+store-key-requires c κs =
+    let part = c .before .before .before .before .before .before .before .before in
+    let s = S (R part) in
+    (s .pre .0, s .pre .1, (s .args .readable .now, s .pre .2), key-length (s .args .memory .now) _ _ (R part .mem-region .ensures) _ _ (part .before .region .given .1))
+
+enum-told : tie.Need-enum-told
+enum-told c = search needs
+
+stop-requires : tie.Need-stop-requires
+stop-requires c κs = search needs
+
+same-length : tie.Need-same-length
+same-length c = search needs
+
+same-length-2 : tie.Need-same-length-2
+same-length-2 c = search needs
+
+returns : tie.Need-returns
+returns c =
+    let load = c .before .before in
+    let told = load .before .before .before .before in
+    let part = told .before .before .before in
+    let region = R part in
+    let start = S region in
+    let a = start .args in
+    λ e s kr kw stack log d.
+    load-inside e s d (F start) (a .lent) (G start kr kw) (a .run) (B start stack log) (a .o) _ _ (region .before .before .key-register .ensures) (region .before .read .ensures) _ (region .mem-region .ensures) _ _
+    _ _ (part .before .region .given .1) _ _ (told .o .given .1) (load .load-key .ensures e s kr kw (a .writable .now) (a .paid .now) (a .memory .now) stack log d (F start))
+
+same-length-3 : tie.Need-same-length-3
+same-length-3 c = search needs
+
+same-length-4 : tie.Need-same-length-4
+same-length-4 c = search needs
+
+same-length-5 : tie.Need-same-length-5
+same-length-5 c = search needs
+
+returns-2 : tie.Need-returns-2
+returns-2 c =
+    let store = c .before .before .before .before .before .before in
+    let value = store .before in
+    let told = value .before .before .before .before .before in
+    let part = told .before .before .before in
+    let region = R part in
+    let start = S region in
+    let a = start .args in
+    λ e s kr kw stack log d.
+    store-inside e s d (F start) (a .lent) (G start kr kw) (a .run) (B start stack log) (a .o) _ _ (region .before .before .key-register .ensures) (region .before .read .ensures) _ (region .mem-region .ensures) _ _
+    _ _ (part .before .region .given .1) _ _ _ (told .o2 .given .1) (value .read2 .ensures) (store .store-key .ensures e s (a .reads .now) kr kw (a .readable .now) (a .memory .now) stack log d (F start))
+
+returns-3 : tie.Need-returns-3
+returns-3 c =
+    let region = c .before .before .before in
+    let start = S region in
+    let a = start .args in
+    λ e s kr kw stack log d.
+    key-outside e s d (F start) (a .lent) (G start kr kw) (a .run) (B start stack log) (a .o) _ _ (region .before .before .key-register .ensures) (region .before .read .ensures) _ (region .mem-region .ensures) _ _
+    (c .before .enum-told .given .1) (c .stop .ensures)
+
+pub access-spec : {M : Type 1} → statement M
+access-spec =
+    tie.close
+    (tie.spec
+    key-register-requires
+    read-requires
+    mem-region-requires
+    enum-known-region
+    sub-key
+    part-key-start
+    part-key-end
+    enum-known-o
+    load-key-requires
+    enum-known-o-2
+    read-requires-2
+    store-key-requires
+    enum-told
+    stop-requires
+    same-length
+    same-length-2
+    returns
+    same-length-3
+    same-length-4
+    same-length-5
+    returns-2
+    returns-3)

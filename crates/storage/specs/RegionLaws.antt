@@ -1,0 +1,116 @@
+-- A key's region decides an access: outside it is 6, and inside its 32 bytes are the key. Assumes nothing.
+use mathlib.Core.Path.{_≡_, refl, sym, ap, _∙_, subst}
+use mathlib.Core.Bool.{Bool, true, false}
+use mathlib.Core.List.{List}
+use Prim.Native.Nat.{ℕ, _+_, _-_, _≤_}
+use native.Mathlib.Omega.{arith}
+use lib.ListN.{length, take, drop, length-drop}
+use lib.Seq.{length-take-le}
+use borrow.Author.Tests.{leb-true}
+use Rattle.words.specs.Bytes.{num}
+use Rattle.words.specs.Choice.{pick}
+use Rattle.state.specs.Regs.{reg}
+use Rattle.state.specs.Memory.{inside, regionOf}
+use Rattle.state.specs.declared.regs.RegFile.{RegFile}
+use Rattle.state.specs.declared.memory.Region.{Region}
+use Rattle.state.specs.declared.memory.Region.the-variants.{Part, Outside}
+use Rattle.keys.specs.Bridge.{Given}
+use Rattle.keys.specs.declared.look.Lent.{Lent}
+use Rattle.machine.specs.Machine.{Env, Machine}
+use Rattle.machine.specs.Steps.{Step, need}
+use Rattle.machine.specs.StorageRules.{loading, storing, accessOf}
+use Rattle.machine.specs.Bridge.{Bufs, machineOf}
+use Rattle.machine.specs.Turned.{stops, Turned}
+use Rattle.machine.specs.TurnLaws.{need-on, need-stops}
+use Rattle.machine.specs.declared.action.Access.{Access}
+use Rattle.machine.specs.declared.action.Access.the-variants.{SLoad, SStore}
+use Rattle.machine.specs.declared.run.Run.{Run}
+use Rattle.machine.specs.declared.turn.Turn.{Turn}
+use Rattle.storage.specs.Answered.{Answers, keyRegister}
+
+-- ---- what a region tells
+
+module _ (mem : List ℕ) (offset : ℕ) (x : Region) (h : x ≡ regionOf (length mem) offset 32) where
+  missed : x ≡ Outside → inside (length mem) offset 32 ≡ false
+  missed k = go (inside (length mem) offset 32) refl (sym h ∙ k)
+    where
+      go : (t : Bool) → inside (length mem) offset 32 ≡ t → pick t (Part offset (offset + 32)) Outside ≡ Outside → inside (length mem) offset 32 ≡ false
+      go true t z = absurd (let w : _≡_ {A = ℕ} 0 1 = cc in omega arith)
+      go false t z = t
+
+  module _ (at end : ℕ) (k : x ≡ Part at end) where
+    record Found : Type 0 where
+      within : inside (length mem) offset 32 ≡ true
+      begin : at ≡ offset
+      stop : end ≡ offset + 32
+
+    found : Found
+    found = go (inside (length mem) offset 32) refl (sym h ∙ k)
+      where
+        go : (t : Bool) → inside (length mem) offset 32 ≡ t → pick t (Part offset (offset + 32)) Outside ≡ Part at end → Found
+        go true t z = record { within = t; begin = cc; stop = cc }
+        go false t z = absurd (let w : _≡_ {A = ℕ} 0 1 = cc in omega arith)
+
+    pub key-ordered : at ≤ end
+    key-ordered = omega (arith, found .begin, found .stop)
+
+    pub key-ends : end ≤ length mem
+    key-ends = omega (arith, found .stop, leb-true (offset + 32) (length mem) (found .within))
+
+    width : end - at ≡ 32
+    width = omega (arith, found .begin, found .stop)
+
+    pub key-length : length (take (end - at) (drop at mem)) ≡ 32
+    key-length = rw width (length-take-le 32 (drop at mem) (omega (arith, length-drop at mem, key-ends, found .begin, found .stop)))
+
+    key-is : num (take (end - at) (drop at mem)) ≡ num (take 32 (drop offset mem))
+    key-is = rw (width, found .begin)
+
+-- ---- what the region of an access tells
+
+-- an access once its key is known
+abbrev keyed : Env → Access → RegFile → ℕ → Machine → Step
+keyed e (SLoad d a) f k = loading e d k
+keyed e (SStore a b) f k = storing e k (reg f b)
+
+module _ (e : Env) (s : List ℕ) (d : ℕ) (f : RegFile) (l : Lent) (g : Given) (r : Run) (b : Bufs) (o : Access) where
+  abbrev place : ℕ
+  place = reg f (keyRegister o)
+
+  abbrev within : Bool
+  within = inside (length (b .memory)) place 32
+
+  abbrev on : Step
+  on = keyed e o f (num (take 32 (drop place (b .memory)))) (machineOf s r f b)
+
+  access-is : accessOf e o (machineOf s r f b) ≡ need within 6 on
+  unfolding accessOf machineOf
+  access-is = go o
+    where
+      go : (z : Access) → accessOf e z (machineOf s r f b)
+          ≡ need (inside (length (b .memory)) (reg f (keyRegister z)) 32) 6 (keyed e z f (num (take 32 (drop (reg f (keyRegister z)) (b .memory)))) (machineOf s r f b))
+      go (SLoad d a) = refl
+      go (SStore a b) = refl
+
+  module _ (a offset : ℕ) (qa : a ≡ keyRegister o) (q : offset ≡ reg f a) (x : Region) (h : x ≡ regionOf (length (b .memory)) offset 32) (u : Bufs) (t : Turn) where
+    placed : x ≡ regionOf (length (b .memory)) place 32
+    placed = h ∙ ap (λ (z : ℕ). regionOf (length (b .memory)) z 32) (q ∙ ap (reg f) qa)
+
+    pub key-outside : x ≡ Outside → t ≡ stops r 6 → Answers e s d (accessOf e o) l g r f b u t
+    key-outside k i = λ sixteen ek so. rw (access-is, i) (need-stops e s d f r u within 6 on (omega arith) (missed (b .memory) place x placed k))
+
+    module _ (at end : ℕ) (k : x ≡ Part at end) where
+      abbrev key : ℕ
+      key = num (take (end - at) (drop at (b .memory)))
+
+      key-inside : Answers e s d (keyed e o f key) l g r f b u t → Answers e s d (accessOf e o) l g r f b u t
+      key-inside i =
+          λ sixteen ek so. rw access-is
+          (need-on e s d f t u within 6 on (found (b .memory) place x placed at end k .within)
+          (subst (λ (y : ℕ). Turned e s d f (keyed e o f y (machineOf s r f b)) t u) (key-is (b .memory) place x placed at end k) (i sixteen ek so)))
+
+      pub load-inside : (to c : ℕ) → o ≡ SLoad to c → Answers e s d (loading e to key) l g r f b u t → Answers e s d (accessOf e o) l g r f b u t
+      load-inside to c p i = key-inside (subst (λ (z : Access). Answers e s d (keyed e z f key) l g r f b u t) (sym p) i)
+
+      pub store-inside : (c w v : ℕ) → o ≡ SStore c w → v ≡ reg f w → Answers e s d (storing e key v) l g r f b u t → Answers e s d (accessOf e o) l g r f b u t
+      store-inside c w v p y i = key-inside (subst (λ (z : Access). Answers e s d (keyed e z f key) l g r f b u t) (sym p) (rw (← y) i))

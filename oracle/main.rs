@@ -1,10 +1,11 @@
-//! The QVM Rust as judge: `oracle codec|arith|verdict|stores|key_steps`, records on standard input, a line each on standard output.
+//! The QVM Rust as judge: `oracle codec|arith|verdict|stores|key_steps|runs`, records on standard input, a line each on standard output.
 
 mod arith;
 mod codec;
 mod input;
 mod key_steps;
 mod reader;
+mod runs;
 mod stores;
 mod verdict;
 
@@ -19,8 +20,9 @@ fn main() -> io::Result<()> {
         "verdict" => verdict::line,
         "stores" => stores::line,
         "key_steps" => key_steps::line,
+        "runs" => runs::line,
         _ => {
-            eprintln!("usage: oracle codec|arith|verdict|stores|key_steps");
+            eprintln!("usage: oracle codec|arith|verdict|stores|key_steps|runs");
             std::process::exit(2);
         }
     };

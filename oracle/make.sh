@@ -3,7 +3,7 @@
 set -eu
 cd "$(dirname "$0")/.."
 out=target/oracle
-mkdir -p "$out" crates/codec crates/arith crates/verdicts crates/stores crates/key_steps
+mkdir -p "$out" crates/codec crates/arith crates/verdicts crates/stores crates/key_steps crates/runs
 
 build() {
     rustc --edition 2021 -O -C panic=abort -L "$out" --out-dir "$out" "$@"
@@ -21,3 +21,4 @@ vectors arith crates/arith/stdin crates/arith/stdout
 vectors verdict crates/verdicts/stdin crates/verdicts/stdout
 vectors stores crates/stores/stdin crates/stores/stdout
 vectors key_steps crates/key_steps/stdin crates/key_steps/stdout
+vectors runs crates/runs/stdin crates/runs/stdout

@@ -1,6 +1,6 @@
 //! In place of crypto.rs: every crypto instruction takes its effect from the next reply row (document 01, "Lent input and what is left").
 
-use std::cell::RefCell;
+use std::cell::{Cell, RefCell};
 use std::collections::VecDeque;
 
 use qtv_crypto::{ml_dsa, slh_dsa};
@@ -28,6 +28,7 @@ type Reply = [u8; REPLY_BYTES];
 
 thread_local! {
     static REPLIES: RefCell<VecDeque<Reply>> = const { RefCell::new(VecDeque::new()) };
+    static MISSING: Cell<bool> = const { Cell::new(false) };
 }
 
 /// Replaces the replies that are left by these whole rows.
@@ -35,12 +36,19 @@ pub fn lend_replies(rows: &[u8]) {
     let (rows, rest) = rows.as_chunks::<REPLY_BYTES>();
     assert!(rest.is_empty(), "replies are not whole rows");
     REPLIES.set(rows.iter().copied().collect());
+    MISSING.set(false);
+}
+
+/// Whether a crypto instruction was charged with no reply left: the run's fault is then 47.
+pub fn reply_missing() -> bool {
+    MISSING.get()
 }
 
 fn play(m: &mut Machine) -> Result<(), Fault> {
-    let row = REPLIES
-        .with_borrow_mut(VecDeque::pop_front)
-        .expect("a crypto instruction is charged and no reply is left");
+    let Some(row) = REPLIES.with_borrow_mut(VecDeque::pop_front) else {
+        MISSING.set(true);
+        return Err(Fault::CryptoFault);
+    };
     let [outcome, register, ..] = row;
     if outcome != 0 {
         return Err(fault_of(outcome));

@@ -1,6 +1,6 @@
 //! The QVM sources, read where they stand and unchanged; crypto.rs alone is replaced, by a player of reply rows.
 
-// interp.rs catches a panic of a crypto body as fault 13, which would hide a reply that is missing.
+// interp.rs catches a panic of a crypto body as fault 13, which would hide a reply that does not play.
 #[cfg(panic = "unwind")]
 compile_error!("build with -C panic=abort");
 
@@ -32,8 +32,50 @@ pub mod isa {
 pub mod abi;
 #[path = "../../shared/docs/src/crates/qtv-vm/src/container.rs"]
 pub mod container;
-#[path = "../../shared/docs/src/crates/qtv-vm/src/interp.rs"]
-pub mod interp;
+pub mod interp {
+    include!("../../shared/docs/src/crates/qtv-vm/src/interp.rs");
+
+    /// Rows changed, fetched, authorised to read and to write, paid as fresh; bytes of the effect log.
+    pub type Sizes = [usize; 6];
+
+    /// A record's data and its trailer.
+    fn record_bytes(effect: &Effect) -> usize {
+        let (Effect::Transfer { to: data, .. } | Effect::Event { data, .. }) = effect;
+        data.len() + 13
+    }
+
+    impl Interpreter<'_> {
+        fn sizes(&self) -> Sizes {
+            [
+                self.dirty.len(),
+                self.loaded.len(),
+                self.keyed_authorized_reads.len(),
+                self.keyed_authorized_writes.len(),
+                self.fresh_charged.len(),
+                self.effects.iter().map(record_bytes).sum(),
+            ]
+        }
+
+        /// The fetches up to the first finished step that leaves more than there is room for.
+        /// `run` shows nothing of its steps, so its loop stands here again; no other answer is taken from it.
+        pub fn overflow(mut self, rooms: &Sizes) -> Option<u64> {
+            for fetches in 1.. {
+                let (instr, len) = decode(self.code, self.machine.pc as usize).ok()?;
+                self.charge(crate::meter::cost(instr.opcode())).ok()?;
+                self.machine.pc += len as u32;
+                match self.step(instr).ok()? {
+                    Step::Next => {}
+                    Step::Halt => return None,
+                    Step::JumpTo(target) => self.machine.pc = target,
+                }
+                if self.sizes().iter().zip(rooms).any(|(size, room)| size > room) {
+                    return Some(fetches);
+                }
+            }
+            None
+        }
+    }
+}
 #[path = "../../shared/docs/src/crates/qtv-vm/src/meter.rs"]
 pub mod meter;
 #[path = "../../shared/docs/src/crates/qtv-vm/src/state.rs"]

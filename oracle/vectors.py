@@ -1,4 +1,4 @@
-"""Records for the oracle: `python3 oracle/vectors.py codec|arith|verdict|stores|key_steps`, written to standard output."""
+"""Records for the oracle: `python3 oracle/vectors.py codec|arith|verdict|stores|key_steps|runs`, written to standard output."""
 
 import itertools
 import random
@@ -425,5 +425,7 @@ def key_steps(source):
 
 
 if __name__ == "__main__":
-    makers = {"codec": codec, "arith": arith, "verdict": verdict, "stores": stores, "key_steps": key_steps}
+    from runs import runs
+
+    makers = {"codec": codec, "arith": arith, "verdict": verdict, "stores": stores, "key_steps": key_steps, "runs": runs}
     sys.stdout.buffer.write(b"".join(makers[sys.argv[1]](Source())))

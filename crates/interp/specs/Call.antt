@@ -7,7 +7,7 @@ use Rattle.tables.specs.Rows.{bytesOf}
 use Rattle.keys.specs.Bridge as tables
 use Rattle.effects.specs.Log.{logOf}
 use Rattle.state.specs.Regs.{cleared}
-use Rattle.machine.specs.Machine.{Env, Machine}
+use Rattle.machine.specs.Machine.{Machine}
 use Rattle.machine.specs.Turns.{End, halted, faulted, runOf}
 use Rattle.machine.specs.Bridge.{Bufs, bufs}
 use Rattle.opening.specs.Opening.{Input, Lent, Opening, refuse, start, openingOf}

@@ -3,11 +3,10 @@ use mathlib.Core.Path.{_≡_, refl, sym, ap, _∙_}
 use mathlib.Core.Bool.{Bool, true, false}
 use mathlib.Core.List.{List}
 use Prim.Native.Nat.{ℕ}
-use native.Mathlib.Omega.{arith}
 use lib.Dec.{eqb}
 use lib.ListN.{length}
-use borrow.Author.Tests.{eq-eqb, ne-eqb, eqb-true}
-use Rattle.words.specs.Choice.{pick, both}
+use borrow.Author.Tests.{eqb-true}
+use Rattle.words.specs.Choice.{both}
 use Rattle.words.specs.ChoiceLaws.{both-left, both-right}
 use Rattle.container.specs.Reader.{readOf}
 use Rattle.crypto.specs.declared.check.Host.{Host}

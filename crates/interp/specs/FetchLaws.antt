@@ -1,6 +1,6 @@
 -- Each end of a fetch is the turn's. Assumes nothing.
-use mathlib.Core.Path.{_≡_, refl, sym, ap, _∙_}
-use mathlib.Core.Bool.{Bool, true, false}
+use mathlib.Core.Path.{_≡_, refl, ap, _∙_}
+use mathlib.Core.Bool.{true, false}
 use mathlib.Core.List.{List}
 use Prim.Native.Nat.{ℕ, suc, _+_, _≤_, _<_}
 use native.Mathlib.Omega.{arith}
@@ -14,18 +14,17 @@ use Rattle.isa.specs.declared.instr.Instr.{Instr}
 use Rattle.isa.specs.declared.instr.Parts.{Parts}
 use Rattle.isa.specs.declared.codec.DecodeError.{DecodeError}
 use Rattle.isa.specs.declared.codec.DecodeError.the-variants.{UnknownOpcode, BadRegister, Truncated}
-use Rattle.isa.specs.declared.codec.Decoded.{Decoded}
 use Rattle.isa.specs.declared.codec.Decoded.the-variants as decoded
 use Rattle.machine.specs.Machine.{Env}
 use Rattle.machine.specs.Turns.{fetchOf, turnOf}
 use Rattle.machine.specs.Bridge.{Bufs, machineOf, Sound}
 use Rattle.machine.specs.Turned.{meterTo, paidBy}
-use Rattle.machine.specs.TurnLaws.{Pays, pays-on, pays-not}
+use Rattle.machine.specs.TurnLaws.{pays-on, pays-not}
 use Rattle.machine.specs.SoundLaws.{placeTo}
 use Rattle.machine.specs.declared.run.Run.{Run}
 use Rattle.machine.specs.declared.run.Paid.{Paid}
 use Rattle.machine.specs.declared.run.Paid.the-variants as paid
-use Rattle.interp.specs.Fetched.{Told, Onward, Fetches}
+use Rattle.interp.specs.Fetched.{Onward, Fetches}
 use Rattle.interp.specs.declared.fetch.Fetched.{Fetched}
 use Rattle.interp.specs.declared.fetch.Fetched.the-variants.{Done, Refused}
 

@@ -5,7 +5,6 @@ use Prim.Native.Nat.{ℕ, suc, _+_, _<_}
 use Rattle.isa.specs.Table.{priceOf}
 use Rattle.isa.specs.Forms.{formOf}
 use Rattle.isa.specs.declared.codec.Decoded.{Decoded}
-use Rattle.isa.specs.declared.codec.Decoded.the-variants as decoded
 use Rattle.state.specs.declared.regs.RegFile.{RegFile}
 use Rattle.machine.specs.Machine.{Env}
 use Rattle.machine.specs.Steps.{Step, fault}

@@ -1,7 +1,7 @@
 -- The two ends of a run are the definition's. Assumes nothing.
-use mathlib.Core.Path.{_≡_, refl, sym, ap, _∙_}
+use mathlib.Core.Path.{_≡_, sym, ap, _∙_}
 use mathlib.Core.List.{List, _++_}
-use Prim.Native.Nat.{ℕ, _-_, _*_, _≤_, _<_}
+use Prim.Native.Nat.{ℕ, _-_, _*_}
 use native.Mathlib.Omega.{arith}
 use lib.ListN.{length, take, drop, replicate, length-append, length-drop, take-append-drop}
 use lib.Seq.{length-take-le}
@@ -14,11 +14,11 @@ use Rattle.keys.specs.Bridge as tables
 use Rattle.effects.specs.Log.{logOf}
 use Rattle.effects.specs.ReadBack.{effectsOf}
 use Rattle.machine.specs.Machine.{Env, Machine}
-use Rattle.machine.specs.Turns.{End, halted, faulted}
+use Rattle.machine.specs.Turns.{halted, faulted}
 use Rattle.machine.specs.Bridge.{Logged, machineOf}
 use Rattle.opening.specs.Opening.{Lent}
-use Rattle.interp.specs.Call.{called, refusedAs, haltedAs, wiped, filled, lentAs, wipedAll, keptOf, ending}
-use Rattle.interp.specs.Runs.{HaltsIn, EndsAs}
+use Rattle.interp.specs.Call.{called, refusedAs, haltedAs, wiped, filled, lentAs, wipedAll, keptOf}
+use Rattle.interp.specs.Runs.{HaltsIn}
 use Rattle.interp.specs.Finished.{answerOf, Finishes}
 use Rattle.interp.specs.declared.answer.Answer.{Answer}
 use Rattle.interp.specs.declared.exec.Ended.{Ended}

@@ -1,33 +1,32 @@
 -- From an accepted opening to the run's start, and from its end to the call's. Assumes nothing.
 use mathlib.Core.Path.{_≡_, refl, sym, ap, _∙_}
 use mathlib.Core.Bool.{Bool, true, false}
-use mathlib.Core.List.{List, [], _++_}
+use mathlib.Core.List.{List, _++_}
 use Prim.Native.Nat.{ℕ, suc, _-_, _/_, _%_}
 use native.Mathlib.Omega.{arith}
 use lib.Dec.{eqb}
-use lib.ListN.{length, take, drop, replicate}
+use lib.ListN.{length, take, replicate}
 use Rattle.words.specs.Choice.{pick, both}
 use Rattle.meter.specs.Prices.{dispatchPrice}
-use Rattle.tables.specs.Rows.{Row, rows}
+use Rattle.tables.specs.Rows.{rows}
 use Rattle.tables.specs.Checked.{risingb, checkedOf}
 use Rattle.tables.specs.CheckTheorems.{whole-table}
 use Rattle.tables.specs.declared.check.Checked.the-variants.{Whole, Bad}
 use Rattle.container.specs.WalkLaws.{holds-starts}
 use Rattle.keys.specs.Bridge.{given, loaderOf, roomsOf}
-use Rattle.keys.specs.Bridge as tables
 use Rattle.keys.specs.RoomLaws.{drop-zeroes}
 use Rattle.keys.specs.Opening.{Zero, opening-good, opening-keys}
 use Rattle.effects.specs.Log.{logOf}
 use Rattle.effects.specs.ReadBack.{readBack, effectsOf}
 use Rattle.effects.specs.Counts.{events}
 use Rattle.state.specs.Regs.{cleared}
-use Rattle.machine.specs.Machine.{Env, Machine}
+use Rattle.machine.specs.Machine.{Env}
 use Rattle.machine.specs.Turns.{End, halted, faulted, runOf}
-use Rattle.machine.specs.Bridge.{Bufs, stackOf, machineOf, Sound}
+use Rattle.machine.specs.Bridge.{stackOf, machineOf, Sound}
 use Rattle.machine.specs.declared.run.Run.{Run}
-use Rattle.opening.specs.Opening.{Input, Lent, startsOf, memoryOf, envOf, machineFor}
+use Rattle.opening.specs.Opening.{Lent, memoryOf, envOf, machineFor}
 use Rattle.interp.specs.BufferLaws.{length-wiped}
-use Rattle.interp.specs.Call.{called, wiped, ending}
+use Rattle.interp.specs.Call.{wiped, ending}
 use Rattle.interp.specs.Ties.{Parts, parts, Suits}
 use Rattle.interp.specs.Runs.{Begun, Starts, Runs}
 use Rattle.interp.specs.Begins.{firstRun, Begins}

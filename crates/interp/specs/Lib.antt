@@ -17,3 +17,4 @@ pub mod LaunchLaws
 pub mod Entered
 pub mod EnterLaws
 pub mod CallLaws
+pub mod Cases

@@ -14,7 +14,7 @@ use Rattle.state.specs.declared.regs.Outcome.{Outcome}
 use Rattle.state.specs.declared.regs.Outcome.the-variants as outcome
 use Rattle.machine.specs.Bridge.{machineOf}
 use Rattle.machine.specs.Turns.{operated}
-use Rattle.machine.specs.Turned.{sets, stops, puts, Turned}
+use Rattle.machine.specs.Turned.{sets, stops, Turned}
 use Rattle.machine.specs.TurnLaws.{none-put, sets-next}
 use Rattle.machine.specs.declared.run.Run.{Run}
 use Rattle.interp.specs.Operated.{Operates}

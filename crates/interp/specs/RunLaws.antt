@@ -1,6 +1,6 @@
 -- The loop of a run: what is left to run decides, and each way out of a turn is the machine's. Assumes nothing.
 use mathlib.Core.Path.{_≡_, refl, sym, ap, _∙_}
-use mathlib.Core.Bool.{Bool, true, false}
+use mathlib.Core.Bool.{true, false}
 use mathlib.Core.List.{List}
 use Prim.Native.Nat.{ℕ, suc, _+_, _-_, _≤_, _<_}
 use native.Mathlib.Omega.{arith}
@@ -23,10 +23,9 @@ use Rattle.machine.specs.declared.run.Run.{Run}
 use Rattle.machine.specs.declared.turn.Turn.{Turn}
 use Rattle.interp.specs.Fetched.{Told, Fetches}
 use Rattle.interp.specs.FetchLaws.{sound-at}
-use Rattle.interp.specs.Ties.{Parts, Suits, Ready, Steps}
-use Rattle.interp.specs.Runs.{Begun, Starts, HaltsIn, EndsAs, Runs}
+use Rattle.interp.specs.Ties.{Parts, Ready, Steps}
+use Rattle.interp.specs.Runs.{Begun, Starts, EndsAs, Runs}
 use Rattle.interp.specs.declared.fetch.Fetched.the-variants.{Done, Refused}
-use Rattle.interp.specs.declared.exec.Ended.{Ended}
 
 -- as many turns as the limit allows from a run's start
 abbrev pub turnsOf : Env → Run → ℕ

@@ -11,7 +11,6 @@ use Rattle.keys.specs.Bridge as tables
 use Rattle.keys.specs.declared.look.Lent.{Lent}
 use Rattle.crypto.specs.declared.check.Host.{Host}
 use Rattle.state.specs.Regs.{file}
-use Rattle.state.specs.declared.regs.RegFile.{RegFile}
 use Rattle.isa.specs.declared.instr.Instr.{Instr}
 use Rattle.machine.specs.Machine.{Env}
 use Rattle.machine.specs.Turns.{stepOf}

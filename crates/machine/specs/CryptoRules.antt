@@ -1,5 +1,4 @@
 -- Crypto instructions: a price, then the next reply; after a Hash the key at its output may become authorised (document 01, The run).
-use mathlib.Core.Bool.{Bool}
 use mathlib.Core.List.{List, [], _∷_}
 use mathlib.Core.Option.{Option, some, none}
 use Prim.Native.Nat.{ℕ, _+_}

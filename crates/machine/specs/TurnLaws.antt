@@ -5,7 +5,7 @@ use mathlib.Core.List.{List}
 use Prim.Native.Nat.{ℕ, _+_, _≤_, _<_}
 use native.Mathlib.Omega.{arith}
 use lib.Dec.{leb}
-use lib.ListN.{length, set, length-set}
+use lib.ListN.{length, length-set}
 use lib.Seq.{set-out}
 use borrow.Author.Tests.{leb-true}
 use Rattle.words.specs.Choice.{pick}
@@ -13,8 +13,8 @@ use Rattle.state.specs.Regs.{setReg}
 use Rattle.state.specs.declared.regs.RegFile.{RegFile}
 use Rattle.machine.specs.Machine.{Env, Machine, usedTo}
 use Rattle.machine.specs.Steps.{Step, next, need, pay}
-use Rattle.machine.specs.Bridge.{Bufs, machineOf, Metered, Sound}
-use Rattle.machine.specs.Turned.{meterTo, paidBy, sets, goes, stops, puts, Left, Turned}
+use Rattle.machine.specs.Bridge.{Bufs, machineOf, Sound}
+use Rattle.machine.specs.Turned.{meterTo, paidBy, sets, goes, stops, puts, Turned}
 use Rattle.machine.specs.declared.run.Run.{Run}
 use Rattle.machine.specs.declared.run.Paid.{Paid}
 use Rattle.machine.specs.declared.run.Paid.the-variants as paid

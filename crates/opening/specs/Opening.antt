@@ -1,10 +1,10 @@
 -- Opening a call (document 01, Numbers returned: the order of refusals; Lent input): an environment and a machine to start from, or a refusal.
-use mathlib.Core.Bool.{Bool, true, not}
+use mathlib.Core.Bool.{Bool, not}
 use mathlib.Core.List.{List, [], _∷_, _++_}
 use Prim.Native.Nat.{ℕ, _-_, _/_}
 use lib.Dec.{leb, eqb}
 use lib.ListN.{length, take, replicate}
-use Rattle.words.specs.Choice.{pick, both, either}
+use Rattle.words.specs.Choice.{pick, both}
 use Rattle.words.specs.Lists.{member}
 use Rattle.meter.specs.Prices.{dispatchPrice}
 use Rattle.tables.specs.Rows.{rows}
@@ -16,7 +16,6 @@ use Rattle.container.specs.Reader.{Read, done, refused, readOf}
 use Rattle.container.specs.Answers.{readError}
 use Rattle.container.specs.Starts.{walkOf}
 use Rattle.container.specs.Verify.{slotCount}
-use Rattle.keys.specs.Known as known
 use Rattle.keys.specs.Bridge.{loaderOf, roomsOf}
 use Rattle.keys.specs.Opening.{noKeys}
 use Rattle.state.specs.Regs.{cleared}

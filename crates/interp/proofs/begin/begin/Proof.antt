@@ -48,7 +48,14 @@ same-length-9 : tie.Need-same-length-9
 same-length-9 c = search needs
 
 returns : tie.Need-returns
-returns c = let w = c .before .before .before .before .before .before .before .before .before .before .before .before .before .before .before .before .before .before .before .before .before .before .before .before .before .before .before .before .before .before .wipe-work .ensures in record { memory = preload-wiped (c .before .before .before .before .before .before .before .before .before .before .before .before .before .before .before .before .before .before .before .before .before .before .before .before .before .before .before .before .before .before .before .before .before .before .before .before .before .before .before .before .before .before .before .before .before .before .before .before .before .args .memory .now) (now (c .before .before .before .before .before .before .before .before .before .before .before .before .before .before .before .before .before .before .before .before .before .before .before .before .before .before .before .before .before .before .before .before .before .before .before .before .before .before .before .before .before .before .before .before .before .before .before .before .before .args .pre)) _ _ (w .memory-is) (c .before .before .preload .ensures); stack = w .stack-is; changes = c .before .before .before .before .before .before .before .before .before .before .before .before .before .before .wipe .ensures; fetched = w .fetched-is; readable = w .readable-is; writable = w .writable-is; paid = w .paid-is; log = c .before .before .before .before .before .before .before .before .before .before .wipe2 .ensures; map = rw (w .map-is) at (c .before .before .before .before .before .before .scan .ensures .1) }
+returns c =
+    let loaded = c .before .before in
+    let scanned = loaded .before .before .before .before in
+    let last-wiped = scanned .before .before .before .before in
+    let first-wiped = last-wiped .before .before .before .before in
+    let wiped = first-wiped .before .before .before .before .before .before .before .before .before .before .before .before .before .before .before .before in
+    let start = wiped .before .before .before .before .before .before .before .before .before .before .before .before .before .before .before .before .before .before .before in
+    let w = wiped .wipe-work .ensures in record { memory = preload-wiped (start .args .memory .now) (now (start .args .pre)) _ _ (w .memory-is) (loaded .preload .ensures); stack = w .stack-is; changes = first-wiped .wipe .ensures; fetched = w .fetched-is; readable = w .readable-is; writable = w .writable-is; paid = w .paid-is; log = last-wiped .wipe2 .ensures; map = rw (w .map-is) at (scanned .scan .ensures .1) }
 
 pub begin-spec : {M : Type 1} → statement M
 begin-spec =

@@ -11,7 +11,10 @@ same-length : tie.Need-same-length
 same-length c = search needs
 
 returns : tie.Need-returns
-returns c = all-wiped (c .before .before .before .before .before .args .t .now) _ (c .before .before .clear .ensures)
+returns c =
+    let clear-at = c .before .before in
+    let start = clear-at .before .before .before in
+    all-wiped (start .args .t .now) _ (clear-at .clear .ensures)
 
 pub wipe-spec : {M : Type 1} → statement M
 wipe-spec = tie.close (tie.spec clear-requires same-length returns)

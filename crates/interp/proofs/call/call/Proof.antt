@@ -21,7 +21,12 @@ enum-known-o : tie.Need-enum-known-o
 enum-known-o c = search needs
 
 enter-requires : tie.Need-enter-requires
-enter-requires c κs = call-entered _ _ _ _ _ _ _ _ _ (c .before .before .before .before .before .before .before .before .before .before .before .before .before .before .sizes-fit .ensures) (not-false _ (c .before .before .before .before .before .before .before .before .before .before .before .before .before .if1 .left)) _ (c .before .before .before .before .before .before .before .before .before .before .before .before .«open» .ensures) _ (c .before .before .before .before .before .before .before .before .before .before .o .given .1)
+enter-requires c κs =
+    let told = c .before .before .before .before .before .before .before .before .before .before in
+    let opened = told .before .before in
+    let tested = opened .before in
+    let sized = tested .before in
+    call-entered _ _ _ _ _ _ _ _ _ (sized .sizes-fit .ensures) (not-false _ (tested .if1 .left)) _ (opened .«open» .ensures) _ (told .o .given .1)
 
 enum-known-o-2 : tie.Need-enum-known-o-2
 enum-known-o-2 c = search needs
@@ -57,10 +62,21 @@ same-length-9 : tie.Need-same-length-9
 same-length-9 c = search needs
 
 returns-2 : tie.Need-returns-2
-returns-2 c = call-runs _ _ _ _ _ _ _ _ _ (c .before .before .before .before .before .before .before .before .before .before .before .before .before .before .before .before .before .before .before .before .before .before .before .before .before .before .before .before .before .before .before .before .before .sizes-fit .ensures) (not-false _ (c .before .before .before .before .before .before .before .before .before .before .before .before .before .before .before .before .before .before .before .before .before .before .before .before .before .before .before .before .before .before .before .before .if1 .left)) _ (c .before .before .before .before .before .before .before .before .before .before .before .before .before .before .before .before .before .before .before .before .before .before .before .before .before .before .before .before .before .before .before .«open» .ensures) _ (c .before .before .before .before .before .before .before .before .before .before .before .before .before .before .before .before .before .before .before .before .before .before .before .before .before .before .before .before .before .o .given .1) _ _ (c .before .before .before .before .before .before .before .before .before .before .before .before .before .before .before .before .before .before .enter .ensures)
+returns-2 c =
+    let entered = c .before .before .before .before .before .before .before .before .before .before .before .before .before .before .before .before .before .before in
+    let told = entered .before .before .before .before .before .before .before .before .before .before .before in
+    let opened = told .before .before in
+    let tested = opened .before in
+    let sized = tested .before in
+    call-runs _ _ _ _ _ _ _ _ _ (sized .sizes-fit .ensures) (not-false _ (tested .if1 .left)) _ (opened .«open» .ensures) _ (told .o .given .1) _ _ (entered .enter .ensures)
 
 returns-3 : tie.Need-returns-3
-returns-3 c = call-refused _ _ _ _ _ _ _ _ _ (c .before .before .before .before .before .before .sizes-fit .ensures) (not-false _ (c .before .before .before .before .before .if1 .left)) _ (c .before .before .before .before .«open» .ensures) _ (c .before .before .o2 .given .1) _ (c .refused2 .ensures)
+returns-3 c =
+    let told = c .before .before in
+    let opened = told .before .before in
+    let tested = opened .before in
+    let sized = tested .before in
+    call-refused _ _ _ _ _ _ _ _ _ (sized .sizes-fit .ensures) (not-false _ (tested .if1 .left)) _ (opened .«open» .ensures) _ (told .o2 .given .1) _ (c .refused2 .ensures)
 
 pub call-spec : {M : Type 1} → statement M
 call-spec =

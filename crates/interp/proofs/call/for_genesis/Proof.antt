@@ -43,7 +43,10 @@ same-length-9 : tie.Need-same-length-9
 same-length-9 c = search needs
 
 returns : tie.Need-returns
-returns c = rw (c .before .before .before .before .before .before .before .before .before .before .before .before .before .before .before .before .before .before .before .before .before .before .before .before .before .before .before .before .signed-of .ensures) at (c .before .before .before .before .before .before .before .before .before .before .before .before .before .before .before .before .before .before .call .ensures)
+returns c =
+    let called = c .before .before .before .before .before .before .before .before .before .before .before .before .before .before .before .before .before .before in
+    let signed = called .before .before .before .before .before .before .before .before .before .before in
+    rw (signed .signed-of .ensures) at (called .call .ensures)
 
 pub for-genesis-spec : {M : Type 1} → statement M
 for-genesis-spec =

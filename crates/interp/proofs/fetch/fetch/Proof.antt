@@ -34,16 +34,29 @@ argument-requires : tie.Need-argument-requires
 argument-requires c κs = search needs
 
 returns-2 : tie.Need-returns-2
-returns-2 c = fetch-refused _ _ _ _ _ (sym (c .before .before .before .before .before .before .before .before .decode .ensures) ∙ c .before .before .before .before .before .before .d2 .given .1 ∙ c .before .before .before .d3 .given .1) (c .before .number .ensures) (c .argument .ensures)
+returns-2 c =
+    let numbered = c .before in
+    let refused = numbered .before .before in
+    let decoded = refused .before .before .before in
+    let decoding = decoded .before .before in
+    fetch-refused _ _ _ _ _ (sym (decoding .decode .ensures) ∙ decoded .d2 .given .1 ∙ refused .d3 .given .1) (numbered .number .ensures) (c .argument .ensures)
 
 add-counted : tie.Need-add-counted
 add-counted c = search needs
 
 onward-requires : tie.Need-onward-requires
-onward-requires c κs = let p = decode-place (now (c .before .before .before .before .before .before .args .code)) (c .before .before .before .before .before .before .args .run .pc) _ _ (sym (c .before .before .before .before .decode .ensures) ∙ c .before .before .d .given .1) in omega (arith, p .within)
+onward-requires c κs =
+    let decoded = c .before .before in
+    let decoding = decoded .before .before in
+    let start = decoding .before .before in
+    let p = decode-place (now (start .args .code)) (start .args .run .pc) _ _ (sym (decoding .decode .ensures) ∙ decoded .d .given .1) in omega (arith, p .within)
 
 returns-3 : tie.Need-returns-3
-returns-3 c = fetch-on (now (c .before .before .before .before .before .before .before .args .code)) (c .before .before .before .before .before .before .before .args .run) (c .before .before .before .d .given .0 .0) (c .before .before .before .d .given .0 .1 .0) (c .onward .result) (sym (c .before .before .before .before .before .decode .ensures) ∙ c .before .before .before .d .given .1) (c .onward .ensures)
+returns-3 c =
+    let decoded = c .before .before .before in
+    let decoding = decoded .before .before in
+    let start = decoding .before .before in
+    fetch-on (now (start .args .code)) (start .args .run) (decoded .d .given .0 .0) (decoded .d .given .0 .1 .0) (c .onward .result) (sym (decoding .decode .ensures) ∙ decoded .d .given .1) (c .onward .ensures)
 
 pub fetch-spec : {M : Type 1} → statement M
 fetch-spec =

@@ -20,16 +20,30 @@ enum-told : tie.Need-enum-told
 enum-told c = search needs
 
 returns : tie.Need-returns
-returns c = onward-out _ _ _ _ (price-of _ _ _ (c .before .before .before .before .parts-of .ensures) (c .before .before .before .price .ensures)) _ (c .before .before .pay .ensures) (c .enum-told .given .1)
+returns c =
+    let paying = c .before .before in
+    let priced = paying .before in
+    let parted = priced .before in
+    onward-out _ _ _ _ (price-of _ _ _ (parted .parts-of .ensures) (priced .price .ensures)) _ (paying .pay .ensures) (c .enum-told .given .1)
 
 add-next : tie.Need-add-next
 add-next c = search needs
 
 returns-2 : tie.Need-returns-2
-returns-2 c = onward-far _ _ _ _ (price-of _ _ _ (c .before .before .before .before .before .before .before .parts-of .ensures) (c .before .before .before .before .before .before .price .ensures)) _ (c .before .before .before .before .before .pay .ensures) _ (c .before .before .before .paid .given .1) (c .if1 .taken)
+returns-2 c =
+    let paid-so = c .before .before .before in
+    let paying = paid-so .before .before in
+    let priced = paying .before in
+    let parted = priced .before in
+    onward-far _ _ _ _ (price-of _ _ _ (parted .parts-of .ensures) (priced .price .ensures)) _ (paying .pay .ensures) _ (paid-so .paid .given .1) (c .if1 .taken)
 
 returns-3 : tie.Need-returns-3
-returns-3 c = onward-done _ _ _ _ (price-of _ _ _ (c .before .before .before .before .before .before .before .parts-of .ensures) (c .before .before .before .before .before .before .price .ensures)) _ (c .before .before .before .before .before .pay .ensures) _ (c .before .before .before .paid .given .1) (c .if1 .left)
+returns-3 c =
+    let paid-so = c .before .before .before in
+    let paying = paid-so .before .before in
+    let priced = paying .before in
+    let parted = priced .before in
+    onward-done _ _ _ _ (price-of _ _ _ (parted .parts-of .ensures) (priced .price .ensures)) _ (paying .pay .ensures) _ (paid-so .paid .given .1) (c .if1 .left)
 
 pub onward-spec : {M : Type 1} → statement M
 onward-spec =

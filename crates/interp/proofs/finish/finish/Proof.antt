@@ -20,7 +20,9 @@ refused-requires : tie.Need-refused-requires
 refused-requires c κs = search needs
 
 same-length : tie.Need-same-length
-same-length c = c .before .before .before .before .before .before .before .before .before .before .before .before .before .before .before .before .before .before .before .before .before .before .before .before .before .wipe-work .kept .0
+same-length c =
+    let wiped = c .before .before .before .before .before .before .before .before .before .before .before .before .before .before .before .before .before .before .before .before .before .before .before .before .before in
+    wiped .wipe-work .kept .0
 
 same-length-2 : tie.Need-same-length-2
 same-length-2 c = search needs
@@ -47,7 +49,12 @@ same-length-9 : tie.Need-same-length-9
 same-length-9 c = search needs
 
 returns : tie.Need-returns
-returns c = let w = c .before .before .before .before .before .before .before .before .before .before .before .before .before .before .before .before .before .before .before .before .before .before .before .before .before .wipe-work .ensures in finish-faults _ _ _ _ (c .before .before .before .before .before .before .before .before .before .if1 .taken) (c .refused .ensures) (λ i. lentAs (w .memory-is i) (w .stack-is i) (tables.bufs (c .before .before .before .before .before .before .before .wipe .ensures i) (w .fetched-is i) (w .readable-is i) (w .writable-is i) (w .paid-is i)) (c .before .before .before .wipe2 .ensures i) (w .map-is i))
+returns c =
+    let last-wiped = c .before .before .before in
+    let first-wiped = last-wiped .before .before .before .before in
+    let tested = first-wiped .before .before in
+    let wiped = tested .before .before .before .before .before .before .before .before .before .before .before .before .before .before .before .before in
+    let w = wiped .wipe-work .ensures in finish-faults _ _ _ _ (tested .if1 .taken) (c .refused .ensures) (λ i. lentAs (w .memory-is i) (w .stack-is i) (tables.bufs (first-wiped .wipe .ensures i) (w .fetched-is i) (w .readable-is i) (w .writable-is i) (w .paid-is i)) (last-wiped .wipe2 .ensures i) (w .map-is i))
 
 halted-requires : tie.Need-halted-requires
 halted-requires c κs = search needs
@@ -74,7 +81,12 @@ same-length-16 : tie.Need-same-length-16
 same-length-16 c = search needs
 
 returns-2 : tie.Need-returns-2
-returns-2 c = let w = c .before .before .before .before .before .before .before .before .before .before .before .before .before .before .before .before .before .wipe-work .ensures in finish-halts _ _ _ _ (c .before .if1 .left) (λ k. c .before .before .before .before .before .before .before .before .before .before .before .before .before .before .before .before .before .before .before .before .before .before .before .before .before .before .before .before .before .before .slice-known4 .given k .fits) (c .halted .ensures) (λ i. lentAs (w .memory-is i) (w .stack-is i) (tables.bufs (now (c .before .before .before .before .before .before .before .before .before .before .before .before .before .before .before .before .before .before .before .before .before .before .before .before .before .before .before .before .before .before .before .before .before .before .args .changes)) (w .fetched-is i) (w .readable-is i) (w .writable-is i) (w .paid-is i)) (now (c .before .before .before .before .before .before .before .before .before .before .before .before .before .before .before .before .before .before .before .before .before .before .before .before .before .before .before .before .before .before .before .before .before .before .args .log)) (w .map-is i))
+returns-2 c =
+    let tested = c .before in
+    let wiped = tested .before .before .before .before .before .before .before .before .before .before .before .before .before .before .before .before in
+    let known = wiped .before .before .before .before .before .before .before .before .before .before .before .before .before in
+    let start = known .before .before .before .before in
+    let w = wiped .wipe-work .ensures in finish-halts _ _ _ _ (tested .if1 .left) (λ k. known .slice-known4 .given k .fits) (c .halted .ensures) (λ i. lentAs (w .memory-is i) (w .stack-is i) (tables.bufs (now (start .args .changes)) (w .fetched-is i) (w .readable-is i) (w .writable-is i) (w .paid-is i)) (now (start .args .log)) (w .map-is i))
 
 pub finish-spec : {M : Type 1} → statement M
 finish-spec =

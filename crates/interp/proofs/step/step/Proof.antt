@@ -29,37 +29,49 @@ enum-known-a : tie.Need-enum-known-a
 enum-known-a c = search needs
 
 step-requires : tie.Need-step-requires
-step-requires c κs = stack-holds _ _ _ (c .before .before .before .before .before .before .before .before .before .before .before .before .before .before .before .before .before .before .before .before .before .before .before .before .before .pre)
+step-requires c κs =
+    let start = c .before .before .before .before .before .before .before .before .before .before .before .before .before .before .before .before .before .before .before .before .before .before .before .before .before in
+    stack-holds _ _ _ (start .pre)
 
 enum-known-a-2 : tie.Need-enum-known-a-2
 enum-known-a-2 c = search needs
 
 step-requires-2 : tie.Need-step-requires-2
-step-requires-2 c κs = stack-holds _ _ _ (c .before .before .before .before .before .before .before .before .before .before .before .before .before .before .before .before .before .before .before .before .before .before .before .before .pre)
+step-requires-2 c κs =
+    let start = c .before .before .before .before .before .before .before .before .before .before .before .before .before .before .before .before .before .before .before .before .before .before .before .before in
+    stack-holds _ _ _ (start .pre)
 
 enum-known-a-3 : tie.Need-enum-known-a-3
 enum-known-a-3 c = search needs
 
 access-requires : tie.Need-access-requires
-access-requires c κs = let x = c .before .before .before .before .before .before .before .before .before .before .before .before .before .before .before .before .before .before .before .before .before .before .before .before .before .before .before .before .before .pre in (x .suits .store, x .suits .loader, x .sound .tables)
+access-requires c κs =
+    let start = c .before .before .before .before .before .before .before .before .before .before .before .before .before .before .before .before .before .before .before .before .before .before .before .before .before .before .before .before .before in
+    let x = start .pre in (x .suits .store, x .suits .loader, x .sound .tables)
 
 enum-known-a-4 : tie.Need-enum-known-a-4
 enum-known-a-4 c = search needs
 
 post-requires : tie.Need-post-requires
-post-requires c κs = let x = c .before .before .before .before .before .before .before .before .before .before .before .before .before .before .before .before .before .before .before .before .before .before .before .before .before .pre .sound in (x .logged .within, x .counted .few, x .counted .posted, x .sized .memory)
+post-requires c κs =
+    let start = c .before .before .before .before .before .before .before .before .before .before .before .before .before .before .before .before .before .before .before .before .before .before .before .before .before in
+    let x = start .pre .sound in (x .logged .within, x .counted .few, x .counted .posted, x .sized .memory)
 
 enum-known-a-5 : tie.Need-enum-known-a-5
 enum-known-a-5 c = search needs
 
 hash-requires : tie.Need-hash-requires
-hash-requires c κs = let x = c .before .before .before .before .before .before .before .before .before .before .before .before .before .before .before .before .before .before .before .before .before .before .before .before .before .before .pre .sound in (x .replies, x .counted .keyed, (_, _, _, x .tables))
+hash-requires c κs =
+    let start = c .before .before .before .before .before .before .before .before .before .before .before .before .before .before .before .before .before .before .before .before .before .before .before .before .before .before in
+    let x = start .pre .sound in (x .replies, x .counted .keyed, (_, _, _, x .tables))
 
 enum-known-a-6 : tie.Need-enum-known-a-6
 enum-known-a-6 c = search needs
 
 check-requires : tie.Need-check-requires
-check-requires c κs = c .before .before .before .before .before .before .before .before .before .before .before .before .before .before .before .before .before .before .before .before .before .before .before .before .pre .sound .replies
+check-requires c κs =
+    let start = c .before .before .before .before .before .before .before .before .before .before .before .before .before .before .before .before .before .before .before .before .before .before .before .before in
+    start .pre .sound .replies
 
 returns : tie.Need-returns
 returns c = rw (c .halt .ensures) (halt-steps _ _ _ _ _ (c .before .before .before .action-of .ensures) (c .before .enum-told .given .1) _)
@@ -77,13 +89,21 @@ same-length-2 : tie.Need-same-length-2
 same-length-2 c = search needs
 
 returns-4 : tie.Need-returns-4
-returns-4 c = move-steps _ _ _ _ _ (c .before .before .before .before .before .before .before .before .before .before .action-of .ensures) _ _ _ _ _ _ _ _ (c .before .before .before .before .before .before .before .before .a .given .1) (c .before .before .before .before .step .ensures)
+returns-4 c =
+    let stepping = c .before .before .before .before in
+    let a-at = stepping .before .before .before .before in
+    let grouped = a-at .before .before in
+    move-steps _ _ _ _ _ (grouped .action-of .ensures) _ _ _ _ _ _ _ _ (a-at .a .given .1) (stepping .step .ensures)
 
 same-length-3 : tie.Need-same-length-3
 same-length-3 c = search needs
 
 returns-5 : tie.Need-returns-5
-returns-5 c = jump-steps _ _ _ _ _ (c .before .before .before .before .before .before .before .action-of .ensures) _ _ _ _ _ _ _ (c .before .before .before .before .before .a2 .given .1) (c .before .before .step2 .ensures)
+returns-5 c =
+    let step2-at = c .before .before in
+    let a2-at = step2-at .before .before .before in
+    let grouped = a2-at .before .before in
+    jump-steps _ _ _ _ _ (grouped .action-of .ensures) _ _ _ _ _ _ _ (a2-at .a2 .given .1) (step2-at .step2 .ensures)
 
 same-length-4 : tie.Need-same-length-4
 same-length-4 c = search needs
@@ -104,7 +124,11 @@ same-length-9 : tie.Need-same-length-9
 same-length-9 c = search needs
 
 returns-6 : tie.Need-returns-6
-returns-6 c = access-steps _ _ _ _ _ (c .before .before .before .before .before .before .before .before .before .before .before .before .before .before .before .before .action-of .ensures) _ _ _ _ _ _ _ _ _ _ _ _ _ (c .before .before .before .before .before .before .before .before .before .before .before .before .before .before .a3 .given .1) (c .before .before .before .before .before .before .access .ensures)
+returns-6 c =
+    let access-at = c .before .before .before .before .before .before in
+    let a3-at = access-at .before .before .before .before .before .before .before .before in
+    let grouped = a3-at .before .before in
+    access-steps _ _ _ _ _ (grouped .action-of .ensures) _ _ _ _ _ _ _ _ _ _ _ _ _ (a3-at .a3 .given .1) (access-at .access .ensures)
 
 same-length-10 : tie.Need-same-length-10
 same-length-10 c = search needs
@@ -113,7 +137,11 @@ same-length-11 : tie.Need-same-length-11
 same-length-11 c = search needs
 
 returns-7 : tie.Need-returns-7
-returns-7 c = post-steps _ _ _ _ _ (c .before .before .before .before .before .before .before .before .action-of .ensures) _ _ _ _ _ _ _ (c .before .before .before .before .before .before .a4 .given .1) (c .before .before .post .ensures)
+returns-7 c =
+    let post-at = c .before .before in
+    let a4-at = post-at .before .before .before .before in
+    let grouped = a4-at .before .before in
+    post-steps _ _ _ _ _ (grouped .action-of .ensures) _ _ _ _ _ _ _ (a4-at .a4 .given .1) (post-at .post .ensures)
 
 same-length-12 : tie.Need-same-length-12
 same-length-12 c = search needs
@@ -125,13 +153,21 @@ same-length-14 : tie.Need-same-length-14
 same-length-14 c = search needs
 
 returns-8 : tie.Need-returns-8
-returns-8 c = hash-steps _ _ _ _ _ (c .before .before .before .before .before .before .before .before .before .before .before .before .before .action-of .ensures) _ _ _ _ _ _ _ _ _ _ _ _ _ _ _ (c .before .before .before .before .before .before .before .before .before .before .before .a5 .given .1) (c .before .before .before .before .before .before .hash .ensures)
+returns-8 c =
+    let hash-at = c .before .before .before .before .before .before in
+    let a5-at = hash-at .before .before .before .before .before in
+    let grouped = a5-at .before .before in
+    hash-steps _ _ _ _ _ (grouped .action-of .ensures) _ _ _ _ _ _ _ _ _ _ _ _ _ _ _ (a5-at .a5 .given .1) (hash-at .hash .ensures)
 
 same-length-15 : tie.Need-same-length-15
 same-length-15 c = search needs
 
 returns-9 : tie.Need-returns-9
-returns-9 c = check-steps _ _ _ _ _ (c .before .before .before .before .before .before .before .action-of .ensures) _ _ _ _ _ _ _ (c .before .before .before .before .before .a6 .given .1) (c .before .before .check .ensures)
+returns-9 c =
+    let check-at = c .before .before in
+    let a6-at = check-at .before .before .before in
+    let grouped = a6-at .before .before in
+    check-steps _ _ _ _ _ (grouped .action-of .ensures) _ _ _ _ _ _ _ (a6-at .a6 .given .1) (check-at .check .ensures)
 
 pub step-spec : {M : Type 1} → statement M
 step-spec =

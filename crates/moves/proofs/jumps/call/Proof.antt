@@ -26,14 +26,20 @@ same-length c = search needs
 
 returns : tie.Need-returns
 unfolding machineOf
-returns c = λ x f mem lm h. pushes-on x _ f mem _ _ _ _ (c .before .before .before .before .before .before .push .ensures .0) (c .before .before .before .before .before .before .push .ensures .1) (jumping (x .env) _) _ _ (c .before .before .p .given .1) (c .jump .ensures x f mem _ lm h)
+returns c =
+    let told = c .before .before in
+    let pushing = told .before .before .before .before in
+    λ x f mem lm h. pushes-on x _ f mem _ _ _ _ (pushing .push .ensures .0) (pushing .push .ensures .1) (jumping (x .env) _) _ _ (told .p .given .1) (c .jump .ensures x f mem _ lm h)
 
 same-length-2 : tie.Need-same-length-2
 same-length-2 c = search needs
 
 returns-2 : tie.Need-returns-2
 unfolding machineOf
-returns-2 c = rw (c .stop .ensures) (λ x f mem lm h. pushes-not x _ f mem _ _ _ _ (c .before .before .before .before .before .push .ensures .0) (c .before .before .before .before .before .push .ensures .1) (jumping (x .env) _) (c .before .enum-told .given .1))
+returns-2 c =
+    let told = c .before in
+    let pushing = told .before .before .before .before in
+    rw (c .stop .ensures) (λ x f mem lm h. pushes-not x _ f mem _ _ _ _ (pushing .push .ensures .0) (pushing .push .ensures .1) (jumping (x .env) _) (told .enum-told .given .1))
 
 pub call-spec : {M : Type 1} → statement M
 call-spec =

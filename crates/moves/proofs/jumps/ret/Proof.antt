@@ -13,7 +13,11 @@ enum-known-p : tie.Need-enum-known-p
 enum-known-p c = search needs
 
 sub-next : tie.Need-sub-next
-sub-next c = pop-some (now (c .before .before .before .before .before .before .before .args .stack)) (c .before .before .before .before .before .before .before .args .run .depth) _ _ (c .before .before .before .before .pop .ensures) (c .before .before .p .given .1)
+sub-next c =
+    let told = c .before .before in
+    let popping = told .before .before in
+    let start = popping .before .before .before in
+    pop-some (now (start .args .stack)) (start .args .run .depth) _ _ (popping .pop .ensures) (told .p .given .1)
 
 jump-requires : tie.Need-jump-requires
 jump-requires c κs = search needs
@@ -25,7 +29,10 @@ stop-requires : tie.Need-stop-requires
 stop-requires c κs = search needs
 
 returns : tie.Need-returns
-returns c = λ x f mem lm h. pops-on x _ f mem _ _ (c .before .before .before .before .before .pop .ensures) (jumping (x .env)) _ _ (c .before .before .before .p .given .1) (c .jump .ensures x f mem _ lm h)
+returns c =
+    let told = c .before .before .before in
+    let popping = told .before .before in
+    λ x f mem lm h. pops-on x _ f mem _ _ (popping .pop .ensures) (jumping (x .env)) _ _ (told .p .given .1) (c .jump .ensures x f mem _ lm h)
 
 returns-2 : tie.Need-returns-2
 returns-2 c = rw (c .stop .ensures) (λ x f mem lm h. pops-not x _ f mem _ _ (c .before .before .before .pop .ensures) (jumping (x .env)) (c .before .enum-told .given .1))

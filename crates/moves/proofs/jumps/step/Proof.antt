@@ -28,7 +28,11 @@ go-on-requires c κs = search needs
 
 returns : tie.Need-returns
 unfolding machineOf jumpOf
-returns c = rw (c .go-on .ensures, c .before .before .before .before .o2 .given .1) (λ x mem lm h. on-other x _ _ mem _ _ _ (c .before .before .read .ensures) (jumping (x .env) _) next _ (c .before .if1 .taken) (goes-on x _ _ mem _))
+returns c =
+    let tested = c .before in
+    let reading = tested .before in
+    let told = reading .before .before in
+    rw (c .go-on .ensures, told .o2 .given .1) (λ x mem lm h. on-other x _ _ mem _ _ _ (reading .read .ensures) (jumping (x .env) _) next _ (tested .if1 .taken) (goes-on x _ _ mem _))
 
 cast-jump-2 : tie.Need-cast-jump-2
 cast-jump-2 c = search needs
@@ -47,7 +51,11 @@ go-on-requires-2 c κs = search needs
 
 returns-2 : tie.Need-returns-2
 unfolding machineOf jumpOf
-returns-2 c = rw (c .go-on2 .ensures, c .before .before .before .before .o3 .given .1) (λ x mem lm h. on-zero x _ _ mem _ _ _ (c .before .before .read2 .ensures) next (jumping (x .env) _) _ (c .before .if2 .taken) (goes-on x _ _ mem _))
+returns-2 c =
+    let tested-again = c .before in
+    let reading = tested-again .before in
+    let o3-at = reading .before .before in
+    rw (c .go-on2 .ensures, o3-at .o3 .given .1) (λ x mem lm h. on-zero x _ _ mem _ _ _ (reading .read2 .ensures) next (jumping (x .env) _) _ (tested-again .if2 .taken) (goes-on x _ _ mem _))
 
 cast-jump-3 : tie.Need-cast-jump-3
 cast-jump-3 c = search needs
@@ -68,7 +76,9 @@ enum-told : tie.Need-enum-told
 enum-told c = search needs
 
 ret-requires : tie.Need-ret-requires
-ret-requires c κs = c .before .before .before .before .before .before .pre
+ret-requires c κs =
+    let start = c .before .before .before .before .before .before in
+    start .pre
 
 returns-3 : tie.Need-returns-3
 unfolding machineOf jumpOf
@@ -76,18 +86,29 @@ returns-3 c = rw (c .before .before .o .given .1) (λ x mem. c .jump .ensures x 
 
 returns-4 : tie.Need-returns-4
 unfolding machineOf jumpOf
-returns-4 c = rw (c .before .before .before .before .o2 .given .1) (λ x mem lm h. on-zero x _ _ mem _ _ _ (c .before .before .read .ensures) (jumping (x .env) _) next _ (c .before .if1 .left) (c .jump2 .ensures x _ mem _ lm h))
+returns-4 c =
+    let tested = c .before in
+    let reading = tested .before in
+    let told = reading .before .before in
+    rw (told .o2 .given .1) (λ x mem lm h. on-zero x _ _ mem _ _ _ (reading .read .ensures) (jumping (x .env) _) next _ (tested .if1 .left) (c .jump2 .ensures x _ mem _ lm h))
 
 returns-5 : tie.Need-returns-5
 unfolding machineOf jumpOf
-returns-5 c = rw (c .before .before .before .before .o3 .given .1) (λ x mem lm h. on-other x _ _ mem _ _ _ (c .before .before .read2 .ensures) next (jumping (x .env) _) _ (c .before .if2 .left) (c .jump3 .ensures x _ mem _ lm h))
+returns-5 c =
+    let tested-again = c .before in
+    let reading = tested-again .before in
+    let o3-at = reading .before .before in
+    rw (o3-at .o3 .given .1) (λ x mem lm h. on-other x _ _ mem _ _ _ (reading .read2 .ensures) next (jumping (x .env) _) _ (tested-again .if2 .left) (c .jump3 .ensures x _ mem _ lm h))
 
 same-length : tie.Need-same-length
 same-length c = search needs
 
 returns-6 : tie.Need-returns-6
 unfolding machineOf jumpOf
-returns-6 c = rw (c .before .before .before .before .before .o4 .given .1) (λ x mem. c .before .before .call .ensures x _ mem)
+returns-6 c =
+    let called = c .before .before in
+    let o4-at = called .before .before .before in
+    rw (o4-at .o4 .given .1) (λ x mem. called .call .ensures x _ mem)
 
 same-length-2 : tie.Need-same-length-2
 same-length-2 c = search needs

@@ -20,7 +20,10 @@ stop-requires : tie.Need-stop-requires
 stop-requires c κs = search needs
 
 returns : tie.Need-returns
-returns c = rw (c .set .ensures) (loads-on _ _ _ _ _ (c .before .before .before .before .mem-load .ensures) _ (c .before .before .l .given .1))
+returns c =
+    let told = c .before .before in
+    let loading = told .before .before in
+    rw (c .set .ensures) (loads-on _ _ _ _ _ (loading .mem-load .ensures) _ (told .l .given .1))
 
 returns-2 : tie.Need-returns-2
 returns-2 c = rw (c .stop .ensures) (loads-not _ _ _ _ _ (c .before .before .before .mem-load .ensures) (c .before .enum-told .given .1))

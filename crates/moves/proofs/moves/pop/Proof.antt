@@ -1,8 +1,6 @@
 -- `pop` meets its contract. Assumes nothing.
 use denote.Ref.{now}
 use borrow.Author.Needs.{needs}
-use Rattle.machine.specs.Machine.{Machine, regTo}
-use Rattle.machine.specs.Steps.{next}
 use Rattle.moves.specs.MoveLaws.{pop-some, pops-on, pops-not, sets-on}
 use Rattle.moves.proofs.moves.pop.Statement.{statement}
 use Rattle.moves.proofs.moves.pop.Tie as tie
@@ -14,7 +12,11 @@ enum-known-p : tie.Need-enum-known-p
 enum-known-p c = search needs
 
 sub-next : tie.Need-sub-next
-sub-next c = let start = c .before .before .before .before .before .before in pop-some (now (start .args .stack)) (start .args .run .depth) _ _ (c .before .before .before .before .pop .ensures) (c .before .before .p .given .1)
+sub-next c =
+    let told = c .before .before in
+    let popping = told .before .before in
+    let before-at = popping .before in
+    let start = before-at .before in pop-some (now (start .args .stack)) (start .args .run .depth) _ _ (popping .pop .ensures) (told .p .given .1)
 
 set-requires : tie.Need-set-requires
 set-requires c κs = search needs
@@ -26,7 +28,10 @@ stop-requires : tie.Need-stop-requires
 stop-requires c κs = search needs
 
 returns : tie.Need-returns
-returns c = rw (c .set .ensures) (λ x f mem. pops-on x _ f mem _ _ (c .before .before .before .before .before .pop .ensures) _ _ _ (c .before .before .before .p .given .1) (sets-on x _ f mem _ _ _))
+returns c =
+    let told = c .before .before .before in
+    let popping = told .before .before in
+    rw (c .set .ensures) (λ x f mem. pops-on x _ f mem _ _ (popping .pop .ensures) _ _ _ (told .p .given .1) (sets-on x _ f mem _ _ _))
 
 returns-2 : tie.Need-returns-2
 returns-2 c = rw (c .stop .ensures) (λ x f mem. pops-not x _ f mem _ _ (c .before .before .before .pop .ensures) _ (c .before .enum-told .given .1))

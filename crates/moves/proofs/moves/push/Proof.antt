@@ -24,13 +24,19 @@ same-length : tie.Need-same-length
 same-length c = search needs
 
 returns : tie.Need-returns
-returns c = rw (c .go-on .ensures) (λ x f mem. pushes-on x _ f mem _ _ _ _ (c .before .before .before .before .before .before .push .ensures .0) (c .before .before .before .before .before .before .push .ensures .1) next _ _ (c .before .before .p .given .1) (goes-on x _ f mem _))
+returns c =
+    let told = c .before .before in
+    let pushing = told .before .before .before .before in
+    rw (c .go-on .ensures) (λ x f mem. pushes-on x _ f mem _ _ _ _ (pushing .push .ensures .0) (pushing .push .ensures .1) next _ _ (told .p .given .1) (goes-on x _ f mem _))
 
 same-length-2 : tie.Need-same-length-2
 same-length-2 c = search needs
 
 returns-2 : tie.Need-returns-2
-returns-2 c = rw (c .stop .ensures) (λ x f mem. pushes-not x _ f mem _ _ _ _ (c .before .before .before .before .before .push .ensures .0) (c .before .before .before .before .before .push .ensures .1) next (c .before .enum-told .given .1))
+returns-2 c =
+    let told = c .before in
+    let pushing = told .before .before .before .before in
+    rw (c .stop .ensures) (λ x f mem. pushes-not x _ f mem _ _ _ _ (pushing .push .ensures .0) (pushing .push .ensures .1) next (told .enum-told .given .1))
 
 pub push-spec : {M : Type 1} → statement M
 push-spec =

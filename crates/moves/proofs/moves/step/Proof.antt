@@ -26,7 +26,9 @@ enum-known-o-3 : tie.Need-enum-known-o-3
 enum-known-o-3 c = search needs
 
 pop-requires : tie.Need-pop-requires
-pop-requires c κs = c .before .before .before .before .before .before .before .before .pre
+pop-requires c κs =
+    let start = c .before .before .before .before .before .before .before .before in
+    start .pre
 
 enum-known-o-4 : tie.Need-enum-known-o-4
 enum-known-o-4 c = search needs
@@ -51,14 +53,22 @@ store-requires c κs = search needs
 
 returns : tie.Need-returns
 unfolding machineOf moveOf
-returns c = rw (c .before .before .o .given .1) (λ x q. c .constant .ensures x (file (now (c .before .before .before .before .before .before .before .before .args .regs))) _ _ q)
+returns c =
+    let told = c .before .before in
+    let start = told .before .before .before .before .before .before in
+    rw (told .o .given .1) (λ x q. c .constant .ensures x (file (now (start .args .regs))) _ _ q)
 
 same-length : tie.Need-same-length
 same-length c = search needs
 
 returns-2 : tie.Need-returns-2
 unfolding machineOf moveOf
-returns-2 c = rw (c .before .before .before .before .before .before .o2 .given .1) (λ x q. rw (c .before .before .before .read .ensures) at (c .before .before .push .ensures x (file (now (c .before .before .before .before .before .before .before .before .before .before .before .before .args .regs))) (now (c .before .before .before .before .before .before .before .before .before .before .before .before .args .memory))))
+returns-2 c =
+    let pushing = c .before .before in
+    let reading = pushing .before in
+    let told = reading .before .before .before in
+    let start = told .before .before .before .before .before .before in
+    rw (told .o2 .given .1) (λ x q. rw (reading .read .ensures) at (pushing .push .ensures x (file (now (start .args .regs))) (now (start .args .memory))))
 
 same-length-2 : tie.Need-same-length-2
 same-length-2 c = search needs
@@ -72,14 +82,24 @@ same-length-3 c = search needs
 
 returns-4 : tie.Need-returns-4
 unfolding machineOf moveOf
-returns-4 c = rw (c .before .before .before .before .o4 .given .1) (λ x q. rw (c .before .read2 .ensures) at (c .load .ensures x (file (now (c .before .before .before .before .before .before .before .before .before .before .args .regs))) (now (c .before .before .before .before .before .before .before .before .before .before .args .stack))))
+returns-4 c =
+    let reading = c .before in
+    let o4-at = reading .before .before .before in
+    let start = o4-at .before .before .before .before .before .before in
+    rw (o4-at .o4 .given .1) (λ x q. rw (reading .read2 .ensures) at (c .load .ensures x (file (now (start .args .regs))) (now (start .args .stack))))
 
 same-length-4 : tie.Need-same-length-4
 same-length-4 c = search needs
 
 returns-5 : tie.Need-returns-5
 unfolding machineOf moveOf
-returns-5 c = rw (c .before .before .before .before .before .before .before .o5 .given .1) (λ x q. rw (c .before .before .before .before .before .read3 .ensures, c .before .before .before .read4 .ensures) at (c .before .before .store .ensures x (file (now (c .before .before .before .before .before .before .before .before .before .before .before .before .before .args .regs))) (now (c .before .before .before .before .before .before .before .before .before .before .before .before .before .args .stack))))
+returns-5 c =
+    let store-at = c .before .before in
+    let read4-at = store-at .before in
+    let reading = read4-at .before .before in
+    let o5-at = reading .before .before in
+    let start = o5-at .before .before .before .before .before .before in
+    rw (o5-at .o5 .given .1) (λ x q. rw (reading .read3 .ensures, read4-at .read4 .ensures) at (store-at .store .ensures x (file (now (start .args .regs))) (now (start .args .stack))))
 
 pub step-spec : {M : Type 1} → statement M
 step-spec =

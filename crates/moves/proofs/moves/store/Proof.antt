@@ -14,7 +14,10 @@ same-length : tie.Need-same-length
 same-length c = search needs
 
 returns : tie.Need-returns
-returns c = rw (c .go-on .ensures) (stores-on _ _ _ _ _ _ (c .before .before .before .before .mem-store .ensures .0) (c .before .if1 .taken) (c .before .before .before .before .mem-store .ensures .1) (c .before .before .before .before .mem-store .kept .0))
+returns c =
+    let tested = c .before in
+    let storing = tested .before .before .before in
+    rw (c .go-on .ensures) (stores-on _ _ _ _ _ _ (storing .mem-store .ensures .0) (tested .if1 .taken) (storing .mem-store .ensures .1) (storing .mem-store .kept .0))
 
 stop-requires : tie.Need-stop-requires
 stop-requires c κs = search needs
@@ -23,7 +26,10 @@ same-length-2 : tie.Need-same-length-2
 same-length-2 c = search needs
 
 returns-2 : tie.Need-returns-2
-returns-2 c = rw (c .stop .ensures) (stores-not _ _ _ _ _ _ (c .before .before .before .before .mem-store .ensures .0) (c .before .if1 .left))
+returns-2 c =
+    let tested = c .before in
+    let storing = tested .before .before .before in
+    rw (c .stop .ensures) (stores-not _ _ _ _ _ _ (storing .mem-store .ensures .0) (tested .if1 .left))
 
 pub store-spec : {M : Type 1} → statement M
 store-spec =

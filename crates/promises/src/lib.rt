@@ -1,0 +1,1 @@
+// Theorems over calls: see specs/.

@@ -13,7 +13,7 @@ put-if-requires : tie.Need-put-if-requires
 put-if-requires c κs = search needs
 
 put-if-requires-2 : tie.Need-put-if-requires-2
-put-if-requires-2 c κs = search needs
+put-if-requires-2 c κs = let ready = c .before .before .before .before .before .before .before .before .before .before .pre in (ready .0 .fetched-held, ready .1, ready .0 .fetched-fit)
 
 add-if-requires : tie.Need-add-if-requires
 add-if-requires c κs = search needs

@@ -16,10 +16,6 @@ use Rattle.machine.specs.declared.run.Run.{Run}
 use Rattle.machine.specs.declared.turn.Put.{Put}
 use Rattle.machine.specs.declared.turn.Turn.{Turn}
 
--- the bytes lent to a run
-abbrev pub lentTo : (memory stack changes fetched readable writable paid log : List ℕ) → Bufs
-lentTo memory stack changes fetched readable writable paid log = bufs memory stack (tables.bufs changes fetched readable writable paid) log
-
 -- the two lists of authorised keys are good beside some other tables: what a plan says of room is known over good tables alone
 abbrev pub GoodLists : Counts → (readable writable : List ℕ) → Type 0
 GoodLists c readable writable = (changes : List ℕ) × (fetched : List ℕ) × (paid : List ℕ) × Good c (tables.bufs changes fetched readable writable paid)

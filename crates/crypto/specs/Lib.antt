@@ -4,6 +4,5 @@ pub mod Taints
 pub mod AskLaws
 pub mod PayLaws
 pub mod CheckLaws
-pub mod RegionLaws
 pub mod TaintLaws
 pub mod HashLaws

@@ -1,30 +1,18 @@
 -- What a payment makes of a run, and of a rule that asks for it. Assumes nothing.
-use mathlib.Core.Path.{_≡_, sym, _∙_}
-use mathlib.Core.Bool.{Bool, true, false}
+use mathlib.Core.Path.{_≡_}
 use mathlib.Core.List.{List}
-use Prim.Native.Nat.{ℕ, _+_}
-use native.Mathlib.Omega.{arith}
-use lib.Dec.{leb}
-use Rattle.words.specs.Choice.{pick}
+use Prim.Native.Nat.{ℕ}
 use Rattle.state.specs.declared.regs.RegFile.{RegFile}
 use Rattle.machine.specs.Machine.{Env, Machine}
 use Rattle.machine.specs.Steps.{Step, pay}
 use Rattle.machine.specs.Bridge.{Bufs, machineOf, Sound}
-use Rattle.machine.specs.Turned.{meterTo, paidBy, stops, Turned}
+use Rattle.machine.specs.Turned.{paidBy, stops, Turned}
 use Rattle.machine.specs.TurnLaws.{pay-on, pay-stops, pays-on, pays-not}
 use Rattle.machine.specs.declared.run.Run.{Run}
 use Rattle.machine.specs.declared.run.Paid.{Paid}
 use Rattle.machine.specs.declared.run.Paid.the-variants as paid
 use Rattle.machine.specs.declared.turn.Turn.{Turn}
 use Rattle.crypto.specs.Answers.{Answers}
-
--- the run that a payment leaves differs in its meter alone
-pub paid-is : (r : Run) (p : ℕ) (x : Paid) (q : Run) → x ≡ paidBy r p → x ≡ paid.Done q → q ≡ meterTo r (r .meter .used + p)
-paid-is r p x q h k = go (leb (r .meter .used + p) (r .meter .limit)) (sym k ∙ h)
-  where
-    go : (t : Bool) → paid.Done q ≡ pick t (paid.Done (meterTo r (r .meter .used + p))) paid.OutOfMeter → q ≡ meterTo r (r .meter .used + p)
-    go true z = cc
-    go false z = absurd (let w : _≡_ {A = ℕ} 0 1 = cc in omega arith)
 
 -- f: the registers that the turn's put goes into; g: the machine's
 module _ (e : Env) (s : List ℕ) (d : ℕ) (f g : RegFile) (r : Run) (b : Bufs) (so : Sound e s d r b) (p : ℕ) (x : Paid) (h : x ≡ paidBy r p) (k : Machine → Step) where

@@ -37,8 +37,9 @@ use Rattle.machine.specs.declared.turn.Put.{Put}
 use Rattle.machine.specs.declared.turn.Turn.{Turn}
 use Rattle.crypto.specs.Answers.{Follows, putting}
 use Rattle.crypto.specs.Taints.{settling, admitting}
-use Rattle.crypto.specs.PayLaws.{paid-is, paid-on, paid-off}
-use Rattle.crypto.specs.RegionLaws.{missed, found, key-is}
+use Rattle.machine.specs.TurnLaws.{paid-is}
+use Rattle.crypto.specs.PayLaws.{paid-on, paid-off}
+use Rattle.state.specs.RegionLaws.{missed, found, part-is}
 
 -- ---- the base
 
@@ -160,10 +161,10 @@ module _ (e : Env) (s : List ℕ) (d : ℕ) (f : RegFile) (r : Run) (p : Put) (b
   module _ (base out : ℕ) (x : Region) (h : x ≡ regionOf (length (b .memory)) out 32) where
     pub taint-outside : (t : Turn) → x ≡ Outside → t ≡ putting r p → Follows e s d (tainting e (some base) out) r p f b b t
     unfolding tainting machineOf
-    taint-outside t k w = λ so. rw (missed (b .memory) out x h k, both-false (keyed (e .keys) base)) (goes-with t w so)
+    taint-outside t k w = λ so. rw (missed (length (b .memory)) out 32 x h k, both-false (keyed (e .keys) base)) (goes-with t w so)
 
     pub taint-inside : (at end : ℕ) (a : Bufs) (t : Turn) → x ≡ Part at end → Follows e s d (admitting e base (num (take (end - at) (drop at (b .memory))))) r p f b a t
         → Follows e s d (tainting e (some base) out) r p f b a t
     unfolding tainting machineOf
     taint-inside at end a t k y =
-        λ so. rw (found (b .memory) out x h at end k .within, both-true (keyed (e .keys) base), ← key-is (b .memory) out x h at end k) (y so)
+        λ so. rw (found (length (b .memory)) out 32 x h at end k .within, both-true (keyed (e .keys) base), ← part-is (b .memory) out 32 x h at end k) (y so)

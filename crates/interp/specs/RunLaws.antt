@@ -15,6 +15,8 @@ use Rattle.keys.specs.Bridge.{roomsOf}
 use Rattle.machine.specs.Machine.{Env, Machine}
 use Rattle.machine.specs.Steps.{Step, next, halt, fault}
 use Rattle.machine.specs.Turns.{stepOf, turnOf, endOf, runOf}
+use Rattle.machine.specs.Actions.{actionOf}
+use Rattle.machine.specs.Outcomes.{extraOf, keysOf}
 use Rattle.machine.specs.Kept.{Keeps, step-keeps}
 use Rattle.machine.specs.Costs.{step-costs}
 use Rattle.machine.specs.Bridge.{Bufs, machineOf, Sound}
@@ -144,9 +146,9 @@ module _ (p : Parts) (r₀ : Run) (b₀ : Bufs) (r : Run) (f : RegFile) (b : Buf
 
       went : t .fault ≡ 0 → t .halted ≡ false → (e : Env) → Begun e p r₀ b₀ → Went e
       unfolding machineOf
-      went h k e g = go (stepOf e i (machineOf (p .replies) q f b)) refl (at e g .0) (came e g) (step-keeps e i (machineOf (p .replies) q f b))
+      went h k e g = go (stepOf e i (machineOf (p .replies) q f b)) refl (at e g .0) (came e g) (step-keeps e (machineOf (p .replies) q f b) i)
         where
-          go : (z : Step) → stepOf e i (machineOf (p .replies) q f b) ≡ z → turnOf e (machineOf (p .replies) r f b) ≡ z → Came e z → Keeps (machineOf (p .replies) q f b) z → Went e
+          go : (z : Step) → stepOf e i (machineOf (p .replies) q f b) ≡ z → turnOf e (machineOf (p .replies) r f b) ≡ z → Came e z → Keeps e (machineOf (p .replies) q f b) (extraOf e (actionOf i) (machineOf (p .replies) q f b)) (keysOf e (actionOf i) (machineOf (p .replies) q f b)) z → Went e
           go (next m) y z c n =
               let l = c .2 in
               record {
@@ -155,7 +157,7 @@ module _ (p : Parts) (r₀ : Run) (b₀ : Bufs) (r : Run) (f : RegFile) (b : Buf
                 sound = l .sound;
                 turn = z;
                 costs = step-costs e i (machineOf (p .replies) q f b) m y;
-                counts = ap (λ (o : Machine). o .fetches) (l .is) ∙ n .0 ∙ at e g .2;
+                counts = ap (λ (o : Machine). o .fetches) (l .is) ∙ n .fetches ∙ at e g .2;
               }
           go (halt m) y z c n = let o = c .1 in absurd (let w : _≡_ {A = ℕ} 0 1 = cc in omega arith)
           go (fault j o) y z c n = absurd (omega (arith, c .0, c .1))

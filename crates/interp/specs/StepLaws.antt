@@ -14,7 +14,7 @@ use Rattle.machine.specs.Actions.{actionOf}
 use Rattle.machine.specs.StorageRules.{accessOf}
 use Rattle.machine.specs.CryptoRules.{hashOf, checkOf}
 use Rattle.machine.specs.Turns.{actOf, stepOf}
-use Rattle.machine.specs.Bridge.{Bufs, bufs, machineOf, Sound}
+use Rattle.machine.specs.Bridge.{Bufs, bufs, machineOf, Sound, lentTo}
 use Rattle.machine.specs.Turned.{goes, halts, Turned}
 use Rattle.machine.specs.TurnLaws.{none-put, goes-next}
 use Rattle.machine.specs.declared.action.Action.{Action}
@@ -31,7 +31,7 @@ use Rattle.storage.specs.Answered as storage
 use Rattle.posts.specs.Putting.{Posts}
 use Rattle.crypto.specs.Answers as crypto
 use Rattle.interp.specs.Operated.{Operates}
-use Rattle.interp.specs.Ties.{Parts, lentTo, Suits, Ready, Steps}
+use Rattle.interp.specs.Ties.{Parts, Suits, Ready, Steps}
 
 -- a stack holds its depth
 pub stack-holds : (p : Parts) (r : Run) (b : Bufs) → Ready p r b → r .depth ≤ length (b .stack)

@@ -37,10 +37,6 @@ pub record Parts : Type 0 where
 abbrev pub parts : (code consts reads writes kreads kwrites store loader replies map : List ℕ) → Lent → Host → Parts
 parts co cs r w kr kw st ld rp map l h = record { code = co; consts = cs; reads = r; writes = w; keyed-reads = kr; keyed-writes = kw; store = st; loader = ld; replies = rp; map = map; lent = l; host = h }
 
--- the bytes that a run changes
-abbrev pub lentTo : (memory stack changes fetched readable writable paid log : List ℕ) → Bufs
-lentTo memory stack changes fetched readable writable paid log = bufs memory stack (tables.bufs changes fetched readable writable paid) log
-
 -- these parts are this environment's
 pub record Suits (e : Env) (p : Parts) : Type 0 where
   pub code : e .code ≡ p .code

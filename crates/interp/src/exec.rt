@@ -1,7 +1,8 @@
 // The run: turn after turn, the registers a local of the loop.
 ghost use mathlib.Core.Path.{_≡_};
 ghost use Rattle.machine.specs.Turned.{puts};
-ghost use Rattle.interp.specs.Ties.{parts, lentTo};
+ghost use Rattle.machine.specs.Bridge.{lentTo};
+ghost use Rattle.interp.specs.Ties.{parts};
 ghost use Rattle.interp.specs.Runs.{Starts, Runs};
 use crate::fetch::Fetched;
 use crypto::check::Host;

@@ -1,5 +1,6 @@
 // One instruction, by its group.
-ghost use Rattle.interp.specs.Ties.{Parts, parts, lentTo, Ready, Steps};
+ghost use Rattle.machine.specs.Bridge.{lentTo};
+ghost use Rattle.interp.specs.Ties.{Parts, parts, Ready, Steps};
 use crypto::check::Host;
 use isa::instr::Instr;
 use keys::look::Lent;

@@ -24,6 +24,10 @@ pub record Bufs : Type 0 where
 abbrev pub bufs : (memory stack : List ℕ) → tables.Bufs → (log : List ℕ) → Bufs
 bufs mem st ks log = record { memory = mem; stack = st; keys = ks; log = log }
 
+-- the same, with the key tables one by one
+abbrev pub lentTo : (memory stack changes fetched readable writable paid log : List ℕ) → Bufs
+lentTo memory stack changes fetched readable writable paid log = bufs memory stack (tables.bufs changes fetched readable writable paid) log
+
 -- the words below a depth, the last first
 unfoldable pub stackOf : ℕ → List ℕ → List ℕ
 stackOf zero words = []

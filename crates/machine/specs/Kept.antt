@@ -1,4 +1,4 @@
--- A step leaves the count of fetches as it is, and gives nothing back of what is used. Assumes nothing.
+-- What a step leaves: as many fetches, its price used and that within the limit, the keys as its rule has them; no fault has the number 0. Assumes nothing.
 use mathlib.Core.Path.{_≡_, refl}
 use mathlib.Core.Bool.{Bool, true, false}
 use mathlib.Core.List.{List, [], _∷_}
@@ -6,6 +6,7 @@ use mathlib.Core.Option.{Option, some, none}
 use Prim.Native.Nat.{ℕ, _+_, _*_, _≤_}
 use native.Mathlib.Omega.{arith}
 use lib.Dec.{leb, ltb, eqb}
+use borrow.Author.Tests.{leb-true, eqb-false}
 use lib.ListN.{length}
 use Rattle.words.specs.Choice.{pick, both}
 use Rattle.words.specs.Lists.{member}
@@ -15,19 +16,21 @@ use Rattle.state.specs.Regs.{reg}
 use Rattle.state.specs.Regs as regs
 use Rattle.state.specs.Memory.{inside}
 use Rattle.tables.specs.declared.reply.Reply.{Reply}
+use Rattle.keys.specs.Known.{Keys}
 use Rattle.keys.specs.Values.{mayLoad, mayStore}
 use Rattle.keys.specs.Steps.{fits, loaded, stored, storePriceAt, keyed, keyPriceAt, keyBytesAt, authorised}
 use Rattle.effects.specs.Log.{Effect, logOf}
 use Rattle.effects.specs.Targets.{targetOf}
-use Rattle.machine.specs.Machine.{Env, Machine, regTo, stackTo, pcTo, keysTo, keyedTo, postedTo, repliesTo, usedTo}
+use Rattle.machine.specs.Machine.{Env, Machine, stackTo, pcTo, repliesTo, usedTo}
 use Rattle.machine.specs.Steps.{Step, next, halt, fault, need, pay}
 use Rattle.machine.specs.Actions.{actionOf}
 use Rattle.machine.specs.MoveRules.{poppingFrom, moveOf}
 use Rattle.machine.specs.JumpRules.{jumping, jumpOf}
 use Rattle.machine.specs.StorageRules.{keyAt, loading, storing, accessOf}
-use Rattle.machine.specs.PostRules.{targetPrice, eventPrice, counting, posting, sending, emitting, postOf}
+use Rattle.machine.specs.PostRules.{targetPrice, eventPrice, posting, sending, emitting, postOf}
 use Rattle.machine.specs.CryptoRules.{replied, askingOf, asking, checkOf, baseOf, authorising, tainting, hashOf}
 use Rattle.machine.specs.Turns.{actOf, stepOf}
+use Rattle.machine.specs.Outcomes.{grantOf, grantAfter, grantPrice, granted, accessPrice, sendPrice, emitPrice, postPrice, checkPrice, extraOf, accessKeys, keysOf}
 use Rattle.machine.specs.declared.action.Action.{Action}
 use Rattle.machine.specs.declared.action.Action.the-variants as action
 use Rattle.machine.specs.declared.action.Move.{Move}
@@ -41,161 +44,191 @@ use Rattle.machine.specs.declared.action.Post.the-variants as post
 use Rattle.machine.specs.declared.action.Check.{Check}
 use Rattle.machine.specs.declared.action.Check.the-variants as check
 
--- p may come after m in one step: as many fetches, and at least as much used
-abbrev pub After : Machine → Machine → Type 0
-After m p = (p .fetches ≡ m .fetches) × (m .used ≤ p .used)
+-- p comes after m in one step, x more used and these keys
+pub record After (e : Env) (m : Machine) (x : ℕ) (ks : Keys) (p : Machine) : Type 0 where
+  pub fetches : p .fetches ≡ m .fetches
+  pub used : p .used ≡ m .used + x
+  pub within : m .used ≤ e .limit → p .used ≤ e .limit
+  pub keys : p .keys ≡ ks
 
-abbrev pub Keeps : Machine → Step → Type 0
-Keeps m (next p) = After m p
-Keeps m (halt p) = After m p
-Keeps m (fault n a) = Unit {0}
+abbrev pub Keeps : Env → Machine → ℕ → Keys → Step → Type 0
+Keeps e m x ks (next p) = After e m x ks p
+Keeps e m x ks (halt p) = After e m x ks p
+Keeps e m x ks (fault n a) = 1 ≤ n
 
-same : (m : Machine) → After m m
-same m = (refl, omega arith)
+module _ (e : Env) (m : Machine) where
+  -- a machine with as much used and the same keys
+  stays : (p : Machine) → p .fetches ≡ m .fetches → p .used ≡ m .used → p .keys ≡ m .keys → After e m 0 (m .keys) p
+  stays p f u k = record { fetches = f; used = omega (arith, u); within = λ h. omega (arith, h, u); keys = k }
 
--- ---- conditions, prices, replies
+  same : After e m 0 (m .keys) m
+  same = stays m refl refl refl
 
-keeps-pick : (m : Machine) (b : Bool) (s t : Step) → Keeps m s → Keeps m t → Keeps m (pick b s t)
-keeps-pick m true s t x y = x
-keeps-pick m false s t x y = y
+  module _ (x : ℕ) (ks : Keys) where
+    -- ---- conditions, prices, replies
 
-keeps-need : (m : Machine) (ok : Bool) (n : ℕ) (s : Step) → Keeps m s → Keeps m (need ok n s)
-keeps-need m ok n s x = keeps-pick m ok s (fault n 0) x tt
+    keeps-pick : (b : Bool) (s t : Step) → Keeps e m x ks s → Keeps e m x ks t → Keeps e m x ks (pick b s t)
+    keeps-pick true s t h k = h
+    keeps-pick false s t h k = k
 
--- a continuation that keeps whatever came after m
-abbrev Onward : Machine → (Machine → Step) → Type 0
-Onward m k = (p : Machine) → After m p → Keeps m (k p)
+    keeps-need : (ok : Bool) (n : ℕ) (s : Step) → 1 ≤ n → Keeps e m x ks s → Keeps e m x ks (need ok n s)
+    keeps-need ok n s l h = keeps-pick ok s (fault n 0) h l
 
-keeps-pay : (e : Env) (m p : Machine) (x : ℕ) (k : Machine → Step) → After m p → Onward m k → Keeps m (pay e x p k)
-keeps-pay e m p x k a on =
-    keeps-need m (leb (p .used + x) (e .limit)) 1 (k (usedTo p (p .used + x))) (on (usedTo p (p .used + x)) (a .0, omega (arith, a .1)))
+    -- a price on top of u, and what comes after it
+    keeps-pay : (u y : ℕ) (s : Step) → (u + y ≤ e .limit → Keeps e m x ks s) → Keeps e m x ks (need (leb (u + y) (e .limit)) 1 s)
+    keeps-pay u y s on = go (leb (u + y) (e .limit)) refl
+      where
+        go : (b : Bool) → leb (u + y) (e .limit) ≡ b → Keeps e m x ks (need b 1 s)
+        go true q = on (leb-true (u + y) (e .limit) q)
+        go false q = omega arith
 
-keeps-pop : (m p : Machine) (st : List ℕ) (k : ℕ → Machine → Step) → After m p → ((v : ℕ) → Onward m (k v)) → Keeps m (poppingFrom st p k)
-keeps-pop m p [] k a on = tt
-keeps-pop m p (v ∷ st) k a on = on v (stackTo p st) a
+    -- a number that is a fault unless it is 0
+    keeps-number : (n : ℕ) (s : Step) → Keeps e m x ks s → Keeps e m x ks (pick (eqb n 0) s (fault n 0))
+    keeps-number n s h = go (eqb n 0) refl
+      where
+        go : (b : Bool) → eqb n 0 ≡ b → Keeps e m x ks (pick b s (fault n 0))
+        go true q = h
+        go false q = omega (arith, eqb-false n 0 q)
 
-keeps-ask : (m p : Machine) (rs : List Reply) (k : Machine → Step) → After m p → Onward m k → Keeps m (askingOf rs p k)
-keeps-ask m p [] k a on = tt
-keeps-ask m p (r ∷ rs) k a on =
-    keeps-pick m (eqb (r .outcome) 0) (k (replied r (repliesTo p rs))) (fault (r .outcome) 0) (on (replied r (repliesTo p rs)) a) tt
+    keeps-pop : (p : Machine) (st : List ℕ) (k : ℕ → Machine → Step) → ((v : ℕ) (l : List ℕ) → Keeps e m x ks (k v (stackTo p l))) → Keeps e m x ks (poppingFrom st p k)
+    keeps-pop p [] k on = omega arith
+    keeps-pop p (v ∷ st) k on = on v st
 
--- the last condition of a rule
-keeps-last : (m p : Machine) (ok : Bool) (n : ℕ) → After m p → Keeps m (need ok n (next p))
-keeps-last m p ok n a = keeps-need m ok n (next p) a
+  -- ---- the groups
 
--- ---- the groups
+  keeps-move : (o : Move) → Keeps e m 0 (m .keys) (moveOf e o m)
+  unfolding moveOf
+  keeps-move (move.Ldc d k) = keeps-need 0 (m .keys) (ltb k (length (e .consts))) 8 _ (omega arith) (stays _ refl refl refl)
+  keeps-move (move.Push a) = keeps-need 0 (m .keys) (ltb (length (m .stack)) 1024) 4 _ (omega arith) (stays _ refl refl refl)
+  keeps-move (move.Pop d) = keeps-pop 0 (m .keys) m (m .stack) _ (λ v l. stays _ refl refl refl)
+  keeps-move (move.MLoad d a) = keeps-need 0 (m .keys) (inside (length (m .memory)) (reg (m .regs) a) 8) 6 _ (omega arith) (stays _ refl refl refl)
+  keeps-move (move.MStore a b) = keeps-need 0 (m .keys) (inside (length (m .memory)) (reg (m .regs) a) 8) 6 _ (omega arith) (stays _ refl refl refl)
 
-keeps-jump-to : (e : Env) (m : Machine) (target : ℕ) → Onward m (jumping e target)
-keeps-jump-to e m target p a = keeps-last m (pcTo p target) (member target (e .starts)) 7 a
+  keeps-jump-to : (target : ℕ) (p : Machine) → p .fetches ≡ m .fetches → p .used ≡ m .used → p .keys ≡ m .keys → Keeps e m 0 (m .keys) (jumping e target p)
+  keeps-jump-to target p f u k = keeps-need 0 (m .keys) (member target (e .starts)) 7 _ (omega arith) (stays (pcTo p target) f u k)
 
-keeps-move : (e : Env) (o : Move) (m : Machine) → Keeps m (moveOf e o m)
-unfolding moveOf
-keeps-move e (move.Ldc d k) m = keeps-last m _ (ltb k (length (e .consts))) 8 (same m)
-keeps-move e (move.Push a) m = keeps-last m _ (ltb (length (m .stack)) 1024) 4 (same m)
-keeps-move e (move.Pop d) m = keeps-pop m m (m .stack) (λ v p. next (regTo p d v)) (same m) (λ v p a. a)
-keeps-move e (move.MLoad d a) m = keeps-last m _ (inside (length (m .memory)) (reg (m .regs) a) 8) 6 (same m)
-keeps-move e (move.MStore a b) m = keeps-last m _ (inside (length (m .memory)) (reg (m .regs) a) 8) 6 (same m)
+  keeps-jump : (o : Jump) → Keeps e m 0 (m .keys) (jumpOf e o m)
+  unfolding jumpOf
+  keeps-jump (jump.Jmp target) = keeps-jump-to target m refl refl refl
+  keeps-jump (jump.Jz a target) = keeps-pick 0 (m .keys) (eqb (reg (m .regs) a) 0) _ _ (keeps-jump-to target m refl refl refl) same
+  keeps-jump (jump.Jnz a target) = keeps-pick 0 (m .keys) (eqb (reg (m .regs) a) 0) _ _ same (keeps-jump-to target m refl refl refl)
+  keeps-jump (jump.Call target) = keeps-need 0 (m .keys) (ltb (length (m .stack)) 1024) 4 _ (omega arith) (keeps-jump-to target (stackTo m (m .pc ∷ m .stack)) refl refl refl)
+  keeps-jump jump.Ret = keeps-pop 0 (m .keys) m (m .stack) (jumping e) (λ v l. keeps-jump-to v (stackTo m l) refl refl refl)
 
-keeps-jump : (e : Env) (o : Jump) (m : Machine) → Keeps m (jumpOf e o m)
-unfolding jumpOf
-keeps-jump e (jump.Jmp target) m = keeps-jump-to e m target m (same m)
-keeps-jump e (jump.Jz a target) m = keeps-pick m (eqb (reg (m .regs) a) 0) _ _ (keeps-jump-to e m target m (same m)) (same m)
-keeps-jump e (jump.Jnz a target) m = keeps-pick m (eqb (reg (m .regs) a) 0) _ _ (same m) (keeps-jump-to e m target m (same m))
-keeps-jump e (jump.Call target) m = keeps-need m (ltb (length (m .stack)) 1024) 4 _ (keeps-jump-to e m target (stackTo m (m .pc ∷ m .stack)) (same m))
-keeps-jump e jump.Ret m = keeps-pop m m (m .stack) (jumping e) (same m) (keeps-jump-to e m)
+  keeps-access : (o : Access) → Keeps e m (accessPrice e o m) (accessKeys e o m) (accessOf e o m)
+  unfolding accessOf loading storing accessPrice accessKeys
+  keeps-access (access.SLoad d a) =
+      let k = keyAt m (reg (m .regs) a) in
+      let left = loaded (e .keys) (m .keys) k in
+      keeps-need 0 left (inside (length (m .memory)) (reg (m .regs) a) 32) 6 _ (omega arith)
+      (keeps-need 0 left (mayLoad (e .keys .reads) (e .keys .writes) (m .keys .may-read) k) 12 _ (omega arith)
+      (keeps-need 0 left (fits (e .rooms) left) 48 _ (omega arith)
+      (record { fetches = refl; used = omega arith; within = λ h. h; keys = refl })))
+  keeps-access (access.SStore a b) =
+      let k = keyAt m (reg (m .regs) a) in
+      let x = storePriceAt (e .keys) (m .keys) k (reg (m .regs) b) in
+      let left = stored (e .keys) (m .keys) k (reg (m .regs) b) in
+      keeps-need x left (inside (length (m .memory)) (reg (m .regs) a) 32) 6 _ (omega arith)
+      (keeps-need x left (mayStore (e .keys .writes) (m .keys .may-write) k) 12 _ (omega arith)
+      (keeps-pay x left (m .used) x _ (λ h. keeps-need x left (fits (e .rooms) left) 48 _ (omega arith)
+      (record { fetches = refl; used = refl; within = λ _. h; keys = refl }))))
 
-keeps-access : (e : Env) (o : Access) (m : Machine) → Keeps m (accessOf e o m)
-unfolding accessOf loading storing
-keeps-access e (access.SLoad d a) m =
-    let k = keyAt m (reg (m .regs) a) in
-    keeps-need m (inside (length (m .memory)) (reg (m .regs) a) 32) 6 _
-    (keeps-need m (mayLoad (e .keys .reads) (e .keys .writes) (m .keys .may-read) k) 12 _
-    (keeps-last m _ (fits (e .rooms) (loaded (e .keys) (m .keys) k)) 48 (same m)))
-keeps-access e (access.SStore a b) m =
-    let k = keyAt m (reg (m .regs) a) in
-    let v = reg (m .regs) b in
-    keeps-need m (inside (length (m .memory)) (reg (m .regs) a) 32) 6 _
-    (keeps-need m (mayStore (e .keys .writes) (m .keys .may-write) k) 12 _
-    (keeps-pay e m m (storePriceAt (e .keys) (m .keys) k v) (λ p. need (fits (e .rooms) (stored (e .keys) (m .keys) k v)) 48 (next (keysTo p (stored (e .keys) (m .keys) k v)))) (same m)
-    (λ p x. keeps-last m _ (fits (e .rooms) (stored (e .keys) (m .keys) k v)) 48 x)))
+  -- paid in full, into the log
+  keeps-posting : (x : ℕ) (o : Effect) (p : Machine) → p .fetches ≡ m .fetches → p .used ≡ m .used + x → p .used ≤ e .limit → p .keys ≡ m .keys → Keeps e m x (m .keys) (posting e o p)
+  keeps-posting x o p f u l k =
+      keeps-need x (m .keys) (leb (length (logOf (o ∷ p .effects))) (e .log-room)) 48 _ (omega arith) (record { fetches = f; used = u; within = λ _. l; keys = k })
 
-keeps-posting : (e : Env) (x : Effect) (m : Machine) → Onward m (posting e x)
-keeps-posting e x m p a = keeps-last m _ (leb (length (logOf (x ∷ p .effects))) (e .log-room)) 48 a
+  -- 2 a byte, the total, and what comes after them
+  keeps-counting : (x n : ℕ) (s : Step) → Keeps e m x (m .keys) s → Keeps e m x (m .keys) (need (leb (m .used + 2 * n) (e .limit)) 1 (need (leb (m .posted + n + 32) 1048576) 11 s))
+  keeps-counting x n s h = keeps-pay x (m .keys) (m .used) (2 * n) _ (λ _. keeps-need x (m .keys) (leb (m .posted + n + 32) 1048576) 11 s (omega arith) h)
 
-keeps-counting : (e : Env) (n : ℕ) (m : Machine) (k : Machine → Step) → Onward m k → Keeps m (counting e n m k)
-keeps-counting e n m k on =
-    keeps-pay e m m (2 * n) (λ p. need (leb (p .posted + n + 32) 1048576) 11 (k (postedTo p (p .posted + n + 32)))) (same m)
-    (λ p a. keeps-need m (leb (p .posted + n + 32) 1048576) 11 _ (on (postedTo p (p .posted + n + 32)) a))
+  keeps-sending : (o : Effect) → Keeps e m (sendPrice o (m .effects)) (m .keys) (sending e o m)
+  unfolding sending sendPrice
+  keeps-sending o =
+      let x = 2 * length (o .bytes) + targetPrice (targetOf o) (m .effects) in
+      keeps-counting x (length (o .bytes)) _ (keeps-pay x (m .keys) (m .used + 2 * length (o .bytes)) (targetPrice (targetOf o) (m .effects)) _
+      (λ h. keeps-posting x o _ refl (omega arith) h refl))
 
-keeps-sending : (e : Env) (x : Effect) (m : Machine) → Keeps m (sending e x m)
-unfolding sending
-keeps-sending e x m =
-    keeps-counting e (length (x .bytes)) m (λ p. pay e (targetPrice (targetOf x) (m .effects)) p (posting e x))
-    (λ p a. keeps-pay e m p (targetPrice (targetOf x) (m .effects)) (posting e x) a (keeps-posting e x m))
+  keeps-emitting : (o : Effect) → Keeps e m (emitPrice o (m .effects)) (m .keys) (emitting e o m)
+  unfolding emitting emitPrice
+  keeps-emitting o =
+      let n = length (o .bytes) in
+      let u = m .used + 2 * n in
+      let x = 2 * n + 98 * n + targetPrice (targetOf o) (m .effects) + eventPrice (m .effects) in
+      keeps-counting x n _ (keeps-pay x (m .keys) u (98 * n) _
+      (λ h. keeps-pay x (m .keys) (u + 98 * n) (targetPrice (targetOf o) (m .effects)) _
+      (λ h′. keeps-pay x (m .keys) (u + 98 * n + targetPrice (targetOf o) (m .effects)) (eventPrice (m .effects)) _
+      (λ h″. keeps-posting x o _ refl (omega arith) h″ refl))))
 
-keeps-emitting : (e : Env) (x : Effect) (m : Machine) → Keeps m (emitting e x m)
-unfolding emitting
-keeps-emitting e x m =
-    keeps-counting e (length (x .bytes)) m (λ p. pay e (98 * length (x .bytes)) p second) (λ p a. keeps-pay e m p (98 * length (x .bytes)) second a
-    (λ q b. keeps-pay e m q (targetPrice (targetOf x) (m .effects)) third b (λ r c. keeps-pay e m r (eventPrice (m .effects)) (posting e x) c (keeps-posting e x m))))
-  where
-    third : Machine → Step
-    third r = pay e (eventPrice (m .effects)) r (posting e x)
+  keeps-post : (o : Post) → Keeps e m (postPrice o m) (m .keys) (postOf e o m)
+  unfolding postOf postPrice
+  keeps-post (post.Send a b c) = keeps-need _ (m .keys) (inside (length (m .memory)) (reg (m .regs) a) (reg (m .regs) b)) 6 _ (omega arith) (keeps-sending _)
+  keeps-post (post.Emit a b c) =
+      keeps-need _ (m .keys) (leb (reg (m .regs) c) 4294967295) 14 _ (omega arith)
+      (keeps-need _ (m .keys) (inside (length (m .memory)) (reg (m .regs) a) (reg (m .regs) b)) 6 _ (omega arith) (keeps-emitting _))
 
-    second : Machine → Step
-    second q = pay e (targetPrice (targetOf x) (m .effects)) q third
+  -- a reply after what was paid
+  keeps-answer : (x : ℕ) (p : Machine) (rs : List Reply) → p .fetches ≡ m .fetches → p .used ≡ m .used + x → (m .used ≤ e .limit → p .used ≤ e .limit) → p .keys ≡ m .keys → Keeps e m x (m .keys) (askingOf rs p next)
+  keeps-answer x p [] f u l k = omega arith
+  keeps-answer x p (r ∷ rs) f u l k = keeps-number x (m .keys) (r .outcome) _ (record { fetches = f; used = u; within = l; keys = k })
 
-keeps-post : (e : Env) (o : Post) (m : Machine) → Keeps m (postOf e o m)
-unfolding postOf
-keeps-post e (post.Send a b c) m = keeps-need m (inside (length (m .memory)) (reg (m .regs) a) (reg (m .regs) b)) 6 _ (keeps-sending e _ m)
-keeps-post e (post.Emit a b c) m =
-    keeps-need m (leb (reg (m .regs) c) 4294967295) 14 _ (keeps-need m (inside (length (m .memory)) (reg (m .regs) a) (reg (m .regs) b)) 6 _ (keeps-emitting e _ m))
+  keeps-paid-answer : (x : ℕ) → Keeps e m x (m .keys) (pay e x m (λ p. asking p next))
+  keeps-paid-answer x = keeps-pay x (m .keys) (m .used) x _ (λ h. keeps-answer x _ (m .replies) refl refl (λ _. h) refl)
 
--- a price, then a reply
-keeps-asking : (e : Env) (m : Machine) (x : ℕ) (k : Machine → Step) → Onward m k → Keeps m (pay e x m (λ p. asking p k))
-keeps-asking e m x k on = keeps-pay e m m x (λ p. asking p k) (same m) (λ p a. keeps-ask m p (p .replies) k a on)
+  keeps-check : (o : Check) → Keeps e m (checkPrice e o m) (m .keys) (checkOf e o m)
+  unfolding checkOf checkPrice
+  keeps-check (check.VerifyMl b) = keeps-paid-answer (messagePrice (reg (m .regs) b) (e .ml-signed))
+  keeps-check (check.VerifySlh b) = keeps-paid-answer (messagePrice (reg (m .regs) b) (e .slh-signed))
+  keeps-check (check.MerkleVerify b) = keeps-paid-answer (merklePrice (reg (m .regs) b))
+  keeps-check check.Addr = keeps-answer 0 m (m .replies) refl (omega arith) (λ h. h) refl
 
-keeps-check : (e : Env) (o : Check) (m : Machine) → Keeps m (checkOf e o m)
-unfolding checkOf
-keeps-check e (check.VerifyMl b) m = keeps-asking e m (messagePrice (reg (m .regs) b) (e .ml-signed)) next (λ p a. a)
-keeps-check e (check.VerifySlh b) m = keeps-asking e m (messagePrice (reg (m .regs) b) (e .slh-signed)) next (λ p a. a)
-keeps-check e (check.MerkleVerify b) m = keeps-asking e m (merklePrice (reg (m .regs) b)) next (λ p a. a)
-keeps-check e check.Addr m = keeps-ask m m (m .replies) next (same m) (λ p a. a)
+  module _ (y : ℕ) (p : Machine) (f : p .fetches ≡ m .fetches) (u : p .used ≡ m .used + y) (l : p .used ≤ e .limit) (k : p .keys ≡ m .keys) where
+    keeps-authorising : (base key : ℕ) → Keeps e m (y + keyPriceAt (m .keys) key) (authorised (e .keys) (m .keys) base key) (authorising e base key p)
+    unfolding authorising
+    keeps-authorising base key =
+        let x = y + keyPriceAt (m .keys) key in
+        let left = authorised (e .keys) (m .keys) base key in
+        rw k (keeps-pay x left (p .used) (keyPriceAt (m .keys) key) _ (λ h. keeps-need x left (leb (p .keyed + keyBytesAt (e .keys) (m .keys) base key) 1048576) 11 _ (omega arith)
+        (keeps-need x left (fits (e .rooms) left) 48 _ (omega arith)
+        (record { fetches = f; used = omega (arith, u); within = λ _. h; keys = refl }))))
 
-keeps-authorising : (e : Env) (m : Machine) (base k : ℕ) → Onward m (authorising e base k)
-unfolding authorising
-keeps-authorising e m base k p a =
-    let total = p .keyed + keyBytesAt (e .keys) (p .keys) base k in
-    let kept = authorised (e .keys) (p .keys) base k in
-    keeps-pay e m p (keyPriceAt (p .keys) k) (λ q. need (leb total 1048576) 11 (need (fits (e .rooms) kept) 48 (next (keysTo (keyedTo q total) kept)))) a
-    (λ q b. keeps-need m (leb total 1048576) 11 _ (keeps-last m _ (fits (e .rooms) kept) 48 b))
+    keeps-tainting : (base : Option ℕ) (out : ℕ) → Keeps e m (y + grantPrice (m .keys) (grantOf (e .keys) base out (p .memory))) (granted (e .keys) (m .keys) (grantOf (e .keys) base out (p .memory))) (tainting e base out p)
+    unfolding tainting grantOf grantPrice granted
+    keeps-tainting none out = record { fetches = f; used = omega (arith, u); within = λ _. l; keys = k }
+    keeps-tainting (some base) out = go (both (keyed (e .keys) base) (inside (length (p .memory)) out 32))
+      where
+        go : (b : Bool) → Keeps e m (y + grantPrice (m .keys) (pick b (some (record { base = base; key = keyAt p out })) none)) (granted (e .keys) (m .keys) (pick b (some (record { base = base; key = keyAt p out })) none)) (pick b (authorising e base (keyAt p out) p) (next p))
+        go true = keeps-authorising base (keyAt p out)
+        go false = record { fetches = f; used = omega (arith, u); within = λ _. l; keys = k }
 
-keeps-taint : (e : Env) (m : Machine) (base : Option ℕ) (out : ℕ) → Onward m (tainting e base out)
-unfolding tainting
-keeps-taint e m none out p a = a
-keeps-taint e m (some base) out p a =
-    keeps-pick m (both (keyed (e .keys) base) (inside (length (p .memory)) out 32)) (authorising e base (keyAt p out) p) (next p) (keeps-authorising e m base (keyAt p out) p a) a
+  keeps-hash : (a b c : ℕ) → Keeps e m (extraOf e (action.Hash a b c) m) (keysOf e (action.Hash a b c) m) (hashOf e a b c m)
+  unfolding hashOf extraOf keysOf grantAfter
+  keeps-hash a b c =
+      let base = baseOf (m .memory) (reg (m .regs) a) (reg (m .regs) b) in
+      let out = reg (m .regs) c in
+      keeps-pay _ _ (m .used) (hashPrice (reg (m .regs) b)) _ (λ h. asked base out h (m .replies))
+    where
+      asked : (base : Option ℕ) (out : ℕ) → m .used + hashPrice (reg (m .regs) b) ≤ e .limit → (rs : List Reply)
+          → Keeps e m (hashPrice (reg (m .regs) b) + grantPrice (m .keys) (grantAfter rs (e .keys) base out (m .memory))) (granted (e .keys) (m .keys) (grantAfter rs (e .keys) base out (m .memory)))
+          (askingOf rs (usedTo m (m .used + hashPrice (reg (m .regs) b))) (tainting e base out))
+      asked base out h [] = omega arith
+      asked base out h (r ∷ rs) =
+          keeps-number _ _ (r .outcome) _ (keeps-tainting (hashPrice (reg (m .regs) b)) (replied r (repliesTo (usedTo m (m .used + hashPrice (reg (m .regs) b))) rs)) refl refl h refl base out)
 
-keeps-hash : (e : Env) (a b c : ℕ) (m : Machine) → Keeps m (hashOf e a b c m)
-unfolding hashOf
-keeps-hash e a b c m =
-    let base = baseOf (m .memory) (reg (m .regs) a) (reg (m .regs) b) in
-    keeps-asking e m (hashPrice (reg (m .regs) b)) (tainting e base (reg (m .regs) c)) (keeps-taint e m base (reg (m .regs) c))
+  -- ---- every step
 
--- ---- every step
+  keeps-act : (i : Instr) (o : Action) → Keeps e m (extraOf e o m) (keysOf e o m) (actOf e i o m)
+  unfolding actOf extraOf keysOf
+  keeps-act i action.Halt = same
+  keeps-act i action.Nop = same
+  keeps-act i action.Registers = keeps-number 0 (m .keys) (regs.stepOf i (m .regs) .fault) _ (stays _ refl refl refl)
+  keeps-act i (action.Moves o) = keeps-move o
+  keeps-act i (action.Jumps o) = keeps-jump o
+  keeps-act i (action.Storage o) = keeps-access o
+  keeps-act i (action.Posts o) = keeps-post o
+  keeps-act i (action.Hash a b c) = keeps-hash a b c
+  keeps-act i (action.Checks o) = keeps-check o
 
-keeps-act : (e : Env) (i : Instr) (o : Action) (m : Machine) → Keeps m (actOf e i o m)
-unfolding actOf
-keeps-act e i action.Halt m = same m
-keeps-act e i action.Nop m = same m
-keeps-act e i action.Registers m = keeps-pick m (eqb (regs.stepOf i (m .regs) .fault) 0) _ _ (same m) tt
-keeps-act e i (action.Moves o) m = keeps-move e o m
-keeps-act e i (action.Jumps o) m = keeps-jump e o m
-keeps-act e i (action.Storage o) m = keeps-access e o m
-keeps-act e i (action.Posts o) m = keeps-post e o m
-keeps-act e i (action.Hash a b c) m = keeps-hash e a b c m
-keeps-act e i (action.Checks o) m = keeps-check e o m
-
-pub step-keeps : (e : Env) (i : Instr) (m : Machine) → Keeps m (stepOf e i m)
-unfolding stepOf
-step-keeps e i m = keeps-act e i (actionOf i) m
+  pub step-keeps : (i : Instr) → Keeps e m (extraOf e (actionOf i) m) (keysOf e (actionOf i) m) (stepOf e i m)
+  unfolding stepOf
+  step-keeps i = keeps-act i (actionOf i)

@@ -12,5 +12,8 @@ pub mod Turned
 pub mod ToldLaws
 pub mod TurnLaws
 pub mod SoundLaws
+pub mod Outcomes
 pub mod Kept
 pub mod Costs
+pub mod Trace
+pub mod Runs

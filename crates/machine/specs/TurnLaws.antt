@@ -94,3 +94,11 @@ module _ (e : Env) (s : List ℕ) (d : ℕ) (r : Run) (b : Bufs) (so : Sound e s
       go : (t : Bool) → leb (r .meter .used + p) (e .limit) ≡ t → paid.OutOfMeter ≡ pick t (paid.Done (meterTo r (r .meter .used + p))) paid.OutOfMeter → leb (r .meter .used + p) (e .limit) ≡ false
       go true y z = absurd (let w : _≡_ {A = ℕ} 0 1 = cc in omega arith)
       go false y z = y
+
+-- the run that a payment leaves differs in its meter alone
+pub paid-is : (r : Run) (p : ℕ) (x : Paid) (q : Run) → x ≡ paidBy r p → x ≡ paid.Done q → q ≡ meterTo r (r .meter .used + p)
+paid-is r p x q h k = go (leb (r .meter .used + p) (r .meter .limit)) (sym k ∙ h)
+  where
+    go : (t : Bool) → paid.Done q ≡ pick t (paid.Done (meterTo r (r .meter .used + p))) paid.OutOfMeter → q ≡ meterTo r (r .meter .used + p)
+    go true z = cc
+    go false z = absurd (let w : _≡_ {A = ℕ} 0 1 = cc in omega arith)

@@ -1,5 +1,5 @@
 -- A price between a run and the rest of its rule, and prices that follow one another. Assumes nothing.
-use mathlib.Core.Path.{_≡_, refl, sym, ap, _∙_}
+use mathlib.Core.Path.{_≡_, refl, ap, _∙_}
 use mathlib.Core.Bool.{Bool, true, false}
 use mathlib.Core.List.{List}
 use Prim.Native.Nat.{ℕ, _+_}
@@ -10,7 +10,7 @@ use Rattle.words.specs.Choice.{pick}
 use Rattle.machine.specs.Machine.{Env, Machine, usedTo}
 use Rattle.machine.specs.Steps.{Step, fault, need, pay}
 use Rattle.machine.specs.Bridge.{machineOf}
-use Rattle.machine.specs.Turned.{meterTo, paidBy, stops}
+use Rattle.machine.specs.Turned.{paidBy, stops}
 use Rattle.machine.specs.TurnLaws.{pay-on, pay-stops, pays-on, pays-not}
 use Rattle.machine.specs.declared.run.Run.{Run}
 use Rattle.machine.specs.declared.run.Paid.{Paid}
@@ -31,15 +31,6 @@ pay-twice e p q m k = go (leb (m .used + p) (e .limit)) refl
 
 pub pay-thrice : (e : Env) (p q r : ℕ) (m : Machine) (k : Machine → Step) → pay e p m (λ n. pay e q n (λ o. pay e r o k)) ≡ pay e (p + q + r) m k
 pay-thrice e p q r m k = pay-twice e p q m (λ o. pay e r o k) ∙ pay-twice e (p + q) r m k
-
--- what a payment tells, whatever the state
-
-pub paid-is : (run : Run) (p : ℕ) (x : Paid) (q : Run) → x ≡ paidBy run p → x ≡ paid.Done q → q ≡ meterTo run (run .meter .used + p)
-paid-is run p x q h k = go (leb (run .meter .used + p) (run .meter .limit)) (sym k ∙ h)
-  where
-    go : (t : Bool) → paid.Done q ≡ pick t (paid.Done (meterTo run (run .meter .used + p))) paid.OutOfMeter → q ≡ meterTo run (run .meter .used + p)
-    go true z = cc
-    go false z = absurd (let w : _≡_ {A = ℕ} 0 1 = cc in omega arith)
 
 -- a price, then the rest
 

@@ -1,15 +1,14 @@
 -- From the total back to a Send or an Emit: each condition that the code asks is the rule's. Assumes nothing.
-use mathlib.Core.Path.{_≡_, refl, sym, ap, _∙_}
-use mathlib.Core.Bool.{Bool, true, false}
+use mathlib.Core.Path.{_≡_, sym, ap, _∙_}
 use mathlib.Core.List.{List}
 use Prim.Native.Nat.{ℕ, _+_, _-_, _*_, _≤_, _<_}
 use native.Mathlib.Omega.{arith}
 use lib.Dec.{leb}
 use lib.ListN.{length, take, drop, length-take, length-drop}
-use borrow.Author.Tests.{le-leb, lt-leb, leb-true}
-use Rattle.words.specs.Choice.{pick}
+use borrow.Author.Tests.{le-leb, lt-leb}
 use Rattle.state.specs.Regs.{file, reg}
-use Rattle.state.specs.Memory.{inside, regionOf}
+use Rattle.state.specs.RegionLaws.{missed, found, part-is}
+use Rattle.state.specs.Memory.{regionOf}
 use Rattle.state.specs.declared.memory.Region.{Region}
 use Rattle.state.specs.declared.memory.Region.the-variants as region
 use Rattle.effects.specs.Log.{Effect, Small, logOf}
@@ -72,36 +71,15 @@ module _ (x : Effect) (run : Run) (t : List ℕ) where
 pub part-short : (mem : List ℕ) (start end : ℕ) → length mem ≡ 65536 → length (take (end - start) (drop start mem)) ≤ 65536
 part-short mem start end h = omega (arith, length-take (end - start) (drop start mem), length-drop start mem)
 
--- a part is that of its region, which lies within
-pub record Placed (size at n start end : ℕ) : Type 0 where
-  pub fits : at + n ≤ size
-  pub start-is : start ≡ at
-  pub end-is : end ≡ at + n
-
 module _ (mem : List ℕ) (at n : ℕ) (o : Region) (h : o ≡ regionOf (length mem) at n) where
-  pub placed : (start end : ℕ) → o ≡ region.Part start end → Placed (length mem) at n start end
-  placed start end k = go (inside (length mem) at n) refl (sym k ∙ h)
-    where
-      go : (y : Bool) → inside (length mem) at n ≡ y → region.Part start end ≡ pick y (region.Part at (at + n)) region.Outside → Placed (length mem) at n start end
-      go true y z = record { fits = leb-true (at + n) (length mem) y; start-is = cc; end-is = cc }
-      go false y z = absurd (let w : _≡_ {A = ℕ} 0 1 = cc in omega arith)
-
-  outside : o ≡ region.Outside → inside (length mem) at n ≡ false
-  outside k = go (inside (length mem) at n) (sym k ∙ h)
-    where
-      go : (y : Bool) → region.Outside ≡ pick y (region.Part at (at + n)) region.Outside → y ≡ false
-      go true z = absurd (let w : _≡_ {A = ℕ} 0 1 = cc in omega arith)
-      go false z = refl
-
   pub place-comes : (kind word start end : ℕ) → o ≡ region.Part start end → (run : Run) (t u : List ℕ) (r : Turn)
       → Comes (λ e. putting e (effect kind word (take (end - start) (drop start mem)))) run t u r → Comes (λ e. placing e kind word mem at n) run t u r
-  place-comes kind word start end k run t u r c =
-      let p = placed start end k in
-      let size : end - start ≡ n = omega (arith, p .start-is, p .end-is) in
-      record { turned = λ e s d f b l so. need-on e s d f r (logTo b u) _ 6 _ (le-leb (at + n) (length mem) (p .fits)) (rw (size, p .start-is) at (c .turned e s d f b l so)) }
+  place-comes kind word start end k run t u r c = record {
+    turned = λ e s d f b l so. need-on e s d f r (logTo b u) _ 6 _ (found (length mem) at n o h start end k .within) (rw (part-is mem at n o h start end k) at (c .turned e s d f b l so));
+  }
 
   pub place-stops : (kind word : ℕ) → o ≡ region.Outside → (run : Run) (t : List ℕ) → Comes (λ e. placing e kind word mem at n) run t t (stops run 6)
-  place-stops kind word k run t = record { turned = λ e s d f b l so. need-stops e s d f run (logTo b t) _ 6 _ (omega arith) (outside k) }
+  place-stops kind word k run t = record { turned = λ e s d f b l so. need-stops e s d f run (logTo b t) _ 6 _ (omega arith) (missed (length mem) at n o h k) }
 
 -- ---- the two instructions
 

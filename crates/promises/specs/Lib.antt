@@ -1,2 +1,14 @@
+pub mod Cases
 pub mod Opened
-pub mod Fetches
+pub mod Accounts
+pub mod Bill
+pub mod Grown
+pub mod Counting
+pub mod Rights
+pub mod FetchedLaws
+pub mod GrowthLaws
+pub mod Growth
+pub mod Promised
+pub mod Call
+pub mod Carried
+pub mod Determined

@@ -5,6 +5,7 @@ pub mod Stack
 pub mod Answers
 pub mod AluLaws
 pub mod RegsLaws
+pub mod RegionLaws
 pub mod MemoryLaws
 pub mod StackLaws
 pub mod RegsTheorems

@@ -5,20 +5,15 @@ use Prim.Native.Nat.{ℕ}
 use lib.ListN.{length}
 use Rattle.state.specs.declared.regs.RegFile.{RegFile}
 use Rattle.keys.specs.Bridge.{Given, envOf}
-use Rattle.keys.specs.Bridge as tables
 use Rattle.keys.specs.declared.look.Lent.{Lent}
 use Rattle.machine.specs.Machine.{Env, Machine}
 use Rattle.machine.specs.Steps.{Step}
-use Rattle.machine.specs.Bridge.{Bufs, bufs, machineOf, Sound}
+use Rattle.machine.specs.Bridge.{Bufs, machineOf, Sound}
 use Rattle.machine.specs.Turned.{Turned}
 use Rattle.machine.specs.declared.action.Access.{Access}
 use Rattle.machine.specs.declared.action.Access.the-variants.{SLoad, SStore}
 use Rattle.machine.specs.declared.run.Run.{Run}
 use Rattle.machine.specs.declared.turn.Turn.{Turn}
-
--- the bytes lent to a run
-abbrev pub lentTo : (memory stack changes fetched readable writable paid log : List ℕ) → Bufs
-lentTo memory stack changes fetched readable writable paid log = bufs memory stack (tables.bufs changes fetched readable writable paid) log
 
 -- the register that says where the key of an access stands
 abbrev pub keyRegister : Access → ℕ

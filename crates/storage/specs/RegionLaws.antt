@@ -1,16 +1,14 @@
 -- A key's region decides an access: outside it is 6, and inside its 32 bytes are the key. Assumes nothing.
 use mathlib.Core.Path.{_≡_, refl, sym, ap, _∙_, subst}
-use mathlib.Core.Bool.{Bool, true, false}
+use mathlib.Core.Bool.{Bool}
 use mathlib.Core.List.{List}
-use Prim.Native.Nat.{ℕ, _+_, _-_, _≤_}
+use Prim.Native.Nat.{ℕ, _-_}
 use native.Mathlib.Omega.{arith}
-use lib.ListN.{length, take, drop, length-drop}
-use lib.Seq.{length-take-le}
-use borrow.Author.Tests.{leb-true}
+use lib.ListN.{length, take, drop}
 use Rattle.words.specs.Bytes.{num}
-use Rattle.words.specs.Choice.{pick}
 use Rattle.state.specs.Regs.{reg}
 use Rattle.state.specs.Memory.{inside, regionOf}
+use Rattle.state.specs.RegionLaws.{missed, found, part-is}
 use Rattle.state.specs.declared.regs.RegFile.{RegFile}
 use Rattle.state.specs.declared.memory.Region.{Region}
 use Rattle.state.specs.declared.memory.Region.the-variants.{Part, Outside}
@@ -27,46 +25,6 @@ use Rattle.machine.specs.declared.action.Access.the-variants.{SLoad, SStore}
 use Rattle.machine.specs.declared.run.Run.{Run}
 use Rattle.machine.specs.declared.turn.Turn.{Turn}
 use Rattle.storage.specs.Answered.{Answers, keyRegister}
-
--- ---- what a region tells
-
-module _ (mem : List ℕ) (offset : ℕ) (x : Region) (h : x ≡ regionOf (length mem) offset 32) where
-  missed : x ≡ Outside → inside (length mem) offset 32 ≡ false
-  missed k = go (inside (length mem) offset 32) refl (sym h ∙ k)
-    where
-      go : (t : Bool) → inside (length mem) offset 32 ≡ t → pick t (Part offset (offset + 32)) Outside ≡ Outside → inside (length mem) offset 32 ≡ false
-      go true t z = absurd (let w : _≡_ {A = ℕ} 0 1 = cc in omega arith)
-      go false t z = t
-
-  module _ (at end : ℕ) (k : x ≡ Part at end) where
-    record Found : Type 0 where
-      within : inside (length mem) offset 32 ≡ true
-      begin : at ≡ offset
-      stop : end ≡ offset + 32
-
-    found : Found
-    found = go (inside (length mem) offset 32) refl (sym h ∙ k)
-      where
-        go : (t : Bool) → inside (length mem) offset 32 ≡ t → pick t (Part offset (offset + 32)) Outside ≡ Part at end → Found
-        go true t z = record { within = t; begin = cc; stop = cc }
-        go false t z = absurd (let w : _≡_ {A = ℕ} 0 1 = cc in omega arith)
-
-    pub key-ordered : at ≤ end
-    key-ordered = omega (arith, found .begin, found .stop)
-
-    pub key-ends : end ≤ length mem
-    key-ends = omega (arith, found .stop, leb-true (offset + 32) (length mem) (found .within))
-
-    width : end - at ≡ 32
-    width = omega (arith, found .begin, found .stop)
-
-    pub key-length : length (take (end - at) (drop at mem)) ≡ 32
-    key-length = rw width (length-take-le 32 (drop at mem) (omega (arith, length-drop at mem, key-ends, found .begin, found .stop)))
-
-    key-is : num (take (end - at) (drop at mem)) ≡ num (take 32 (drop offset mem))
-    key-is = rw (width, found .begin)
-
--- ---- what the region of an access tells
 
 -- an access once its key is known
 abbrev keyed : Env → Access → RegFile → ℕ → Machine → Step
@@ -97,7 +55,7 @@ module _ (e : Env) (s : List ℕ) (d : ℕ) (f : RegFile) (l : Lent) (g : Given)
     placed = h ∙ ap (λ (z : ℕ). regionOf (length (b .memory)) z 32) (q ∙ ap (reg f) qa)
 
     pub key-outside : x ≡ Outside → t ≡ stops r 6 → Answers e s d (accessOf e o) l g r f b u t
-    key-outside k i = λ sixteen ek so. rw (access-is, i) (need-stops e s d f r u within 6 on (omega arith) (missed (b .memory) place x placed k))
+    key-outside k i = λ sixteen ek so. rw (access-is, i) (need-stops e s d f r u within 6 on (omega arith) (missed (length (b .memory)) place 32 x placed k))
 
     module _ (at end : ℕ) (k : x ≡ Part at end) where
       abbrev key : ℕ
@@ -106,8 +64,8 @@ module _ (e : Env) (s : List ℕ) (d : ℕ) (f : RegFile) (l : Lent) (g : Given)
       key-inside : Answers e s d (keyed e o f key) l g r f b u t → Answers e s d (accessOf e o) l g r f b u t
       key-inside i =
           λ sixteen ek so. rw access-is
-          (need-on e s d f t u within 6 on (found (b .memory) place x placed at end k .within)
-          (subst (λ (y : ℕ). Turned e s d f (keyed e o f y (machineOf s r f b)) t u) (key-is (b .memory) place x placed at end k) (i sixteen ek so)))
+          (need-on e s d f t u within 6 on (found (length (b .memory)) place 32 x placed at end k .within)
+          (subst (λ (y : ℕ). Turned e s d f (keyed e o f y (machineOf s r f b)) t u) (ap num (part-is (b .memory) place 32 x placed at end k)) (i sixteen ek so)))
 
       pub load-inside : (to c : ℕ) → o ≡ SLoad to c → Answers e s d (loading e to key) l g r f b u t → Answers e s d (accessOf e o) l g r f b u t
       load-inside to c p i = key-inside (subst (λ (z : Access). Answers e s d (keyed e z f key) l g r f b u t) (sym p) i)

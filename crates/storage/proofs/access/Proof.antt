@@ -1,13 +1,14 @@
 -- `storage::access` meets its contract: the key's region decides, then the load or the store. Assumes nothing.
 use mathlib.Core.List.{List}
 use Prim.Native.Nat.{ℕ}
+use lib.ListN.{length}
 use borrow.Author.Needs.{needs}
 use Rattle.state.specs.Regs.{file}
 use Rattle.state.specs.declared.regs.RegFile.{RegFile}
 use Rattle.keys.specs.Bridge.{Given, given}
-use Rattle.machine.specs.Bridge.{Bufs}
-use Rattle.storage.specs.Answered.{lentTo}
-use Rattle.storage.specs.RegionLaws.{key-ordered, key-ends, key-length, key-outside, load-inside, store-inside}
+use Rattle.machine.specs.Bridge.{Bufs, lentTo}
+use Rattle.state.specs.RegionLaws.{part-ordered, part-ends, part-length}
+use Rattle.storage.specs.RegionLaws.{key-outside, load-inside, store-inside}
 use Rattle.storage.proofs.access.Statement.{statement}
 use Rattle.storage.proofs.access.Tie as tie
 
@@ -40,13 +41,13 @@ enum-known-region : tie.Need-enum-known-region
 enum-known-region c = search needs
 
 sub-key : tie.Need-sub-key
-sub-key c = key-ordered (S (R c) .args .memory .now) _ _ (R c .mem-region .ensures) _ _ (c .before .region .given .1)
+sub-key c = part-ordered (length (S (R c) .args .memory .now)) _ 32 _ (R c .mem-region .ensures) _ _ (c .before .region .given .1)
 
 part-key-start : tie.Need-part-key-start
 part-key-start c = sub-key c
 
 part-key-end : tie.Need-part-key-end
-part-key-end c = key-ends (S (R c) .args .memory .now) _ _ (R c .mem-region .ensures) _ _ (c .before .region .given .1)
+part-key-end c = part-ends (length (S (R c) .args .memory .now)) _ 32 _ (R c .mem-region .ensures) _ _ (c .before .region .given .1)
 
 enum-known-o : tie.Need-enum-known-o
 enum-known-o c = search needs
@@ -55,7 +56,7 @@ load-key-requires : tie.Need-load-key-requires
 load-key-requires c κs =
     let part = c .before .before .before .before .before .before in
     let s = S (R part) in
-    (s .pre .0, s .pre .1, (s .args .writable .now, s .args .paid .now, s .pre .2), key-length (s .args .memory .now) _ _ (R part .mem-region .ensures) _ _ (part .before .region .given .1))
+    (s .pre .0, s .pre .1, (s .args .writable .now, s .args .paid .now, s .pre .2), part-length (s .args .memory .now) _ 32 _ (R part .mem-region .ensures) _ _ (part .before .region .given .1))
 
 enum-known-o-2 : tie.Need-enum-known-o-2
 enum-known-o-2 c = search needs
@@ -67,7 +68,7 @@ store-key-requires : tie.Need-store-key-requires
 store-key-requires c κs =
     let part = c .before .before .before .before .before .before .before .before in
     let s = S (R part) in
-    (s .pre .0, s .pre .1, (s .args .readable .now, s .pre .2), key-length (s .args .memory .now) _ _ (R part .mem-region .ensures) _ _ (part .before .region .given .1))
+    (s .pre .0, s .pre .1, (s .args .readable .now, s .pre .2), part-length (s .args .memory .now) _ 32 _ (R part .mem-region .ensures) _ _ (part .before .region .given .1))
 
 enum-told : tie.Need-enum-told
 enum-told c = search needs

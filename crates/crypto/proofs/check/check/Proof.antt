@@ -11,7 +11,8 @@ use Rattle.machine.specs.Machine.{Env}
 use Rattle.machine.specs.Steps.{next}
 use Rattle.machine.specs.CryptoRules.{asking, checkOf}
 use Rattle.machine.specs.Bridge.{Bufs, bufs}
-use Rattle.crypto.specs.PayLaws.{paid-is, Priced}
+use Rattle.machine.specs.TurnLaws.{paid-is}
+use Rattle.crypto.specs.PayLaws.{Priced}
 use Rattle.crypto.specs.CheckLaws.{check-pays}
 use Rattle.crypto.proofs.check.check.Statement.{statement}
 use Rattle.crypto.proofs.check.check.Tie as tie

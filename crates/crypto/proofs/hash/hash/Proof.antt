@@ -6,10 +6,10 @@ use Rattle.state.specs.Regs.{file}
 use Rattle.state.specs.declared.regs.RegFile.{RegFile}
 use Rattle.machine.specs.Machine.{Env}
 use Rattle.machine.specs.CryptoRules.{asking, tainting, hashOf}
-use Rattle.machine.specs.Bridge.{Bufs}
-use Rattle.crypto.specs.Answers.{lentTo}
+use Rattle.machine.specs.Bridge.{Bufs, lentTo}
 use Rattle.crypto.specs.Taints.{baseIn}
-use Rattle.crypto.specs.PayLaws.{paid-is, Priced}
+use Rattle.machine.specs.TurnLaws.{paid-is}
+use Rattle.crypto.specs.PayLaws.{Priced}
 use Rattle.crypto.specs.HashLaws.{hash-pays}
 use Rattle.crypto.proofs.hash.hash.Statement.{statement}
 use Rattle.crypto.proofs.hash.hash.Tie as tie

@@ -7,8 +7,7 @@ use Rattle.keys.specs.Bridge as tables
 use Rattle.machine.specs.Machine.{Env, Machine}
 use Rattle.machine.specs.Steps.{Step}
 use Rattle.machine.specs.CryptoRules.{tainting}
-use Rattle.machine.specs.Bridge.{machineOf}
-use Rattle.crypto.specs.Answers.{lentTo}
+use Rattle.machine.specs.Bridge.{machineOf, lentTo}
 use Rattle.crypto.specs.Taints.{baseIn}
 use Rattle.crypto.specs.AskLaws.{asked-stops, asked-on}
 use Rattle.crypto.proofs.hash.reply.Statement.{statement}

@@ -8,9 +8,8 @@ use Rattle.words.specs.Bytes.{num}
 use Rattle.keys.specs.Bridge.{Given, bufs, given}
 use Rattle.keys.specs.KeyLaws.{key-ready}
 use Rattle.keys.specs.declared.look.Lent.{Lent}
-use Rattle.machine.specs.Bridge.{Bufs}
-use Rattle.crypto.specs.Answers.{lentTo}
-use Rattle.crypto.specs.PayLaws.{paid-is}
+use Rattle.machine.specs.Bridge.{Bufs, lentTo}
+use Rattle.machine.specs.TurnLaws.{paid-is}
 use Rattle.crypto.specs.TaintLaws.{admit-not, admit-unpaid, admit-paid}
 use Rattle.crypto.proofs.taint.admit.Statement.{statement}
 use Rattle.crypto.proofs.taint.admit.Tie as tie

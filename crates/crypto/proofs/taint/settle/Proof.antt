@@ -3,8 +3,7 @@ use mathlib.Core.List.{List}
 use Prim.Native.Nat.{ℕ}
 use borrow.Author.Needs.{needs}
 use borrow.Author.Tests.{not-true, not-false}
-use Rattle.machine.specs.Bridge.{Bufs}
-use Rattle.crypto.specs.Answers.{lentTo}
+use Rattle.machine.specs.Bridge.{Bufs, lentTo}
 use Rattle.crypto.specs.TaintLaws.{settle-capped, settle-full, settle-done}
 use Rattle.crypto.proofs.taint.settle.Statement.{statement}
 use Rattle.crypto.proofs.taint.settle.Tie as tie

@@ -1,10 +1,10 @@
 -- `crypto::taint::taint` meets its contract: the base and the output's region decide. Assumes nothing.
 use mathlib.Core.List.{List}
 use Prim.Native.Nat.{ℕ}
+use lib.ListN.{length}
 use borrow.Author.Needs.{needs}
-use Rattle.machine.specs.Bridge.{Bufs}
-use Rattle.crypto.specs.Answers.{lentTo}
-use Rattle.crypto.specs.RegionLaws.{key-ordered, key-ends, key-length}
+use Rattle.machine.specs.Bridge.{Bufs, lentTo}
+use Rattle.state.specs.RegionLaws.{part-ordered, part-ends, part-length}
 use Rattle.crypto.specs.TaintLaws.{taint-none, taint-outside, taint-inside}
 use Rattle.crypto.proofs.taint.taint.Statement.{statement}
 use Rattle.crypto.proofs.taint.taint.Tie as tie
@@ -29,19 +29,19 @@ enum-known-region : tie.Need-enum-known-region
 enum-known-region c = search needs
 
 sub-key : tie.Need-sub-key
-sub-key c = key-ordered (S (R c) .args .memory .now) _ _ (R c .mem-region .ensures) _ _ (c .before .region .given .1)
+sub-key c = part-ordered (length (S (R c) .args .memory .now)) _ 32 _ (R c .mem-region .ensures) _ _ (c .before .region .given .1)
 
 part-key-start : tie.Need-part-key-start
 part-key-start c = sub-key c
 
 part-key-end : tie.Need-part-key-end
-part-key-end c = key-ends (S (R c) .args .memory .now) _ _ (R c .mem-region .ensures) _ _ (c .before .region .given .1)
+part-key-end c = part-ends (length (S (R c) .args .memory .now)) _ 32 _ (R c .mem-region .ensures) _ _ (c .before .region .given .1)
 
 admit-requires : tie.Need-admit-requires
 admit-requires c κs =
     let part = c .before .before .before in
     let s = S (R part) in
-    (s .pre .0, s .pre .1, key-length (s .args .memory .now) _ _ (R part .mem-region .ensures) _ _ (part .before .region .given .1))
+    (s .pre .0, s .pre .1, part-length (s .args .memory .now) _ 32 _ (R part .mem-region .ensures) _ _ (part .before .region .given .1))
 
 enum-told : tie.Need-enum-told
 enum-told c = search needs

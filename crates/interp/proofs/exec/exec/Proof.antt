@@ -3,7 +3,8 @@ use mathlib.Core.Path.{refl, _∙_}
 use Prim.Native.Nat.{suc, _-_}
 use native.Mathlib.Omega.{arith}
 use borrow.Author.Needs.{needs}
-use Rattle.interp.specs.Ties.{parts, lentTo}
+use Rattle.machine.specs.Bridge.{lentTo}
+use Rattle.interp.specs.Ties.{parts}
 use Rattle.interp.specs.RunLaws.{Looping, loop-begins, fetch-fits, loop-refused, step-ready, loop-faults, loop-halts, loop-goes, loop-shrinks, loop-sizes}
 use Rattle.interp.proofs.exec.exec.Statement.{statement}
 use Rattle.interp.proofs.exec.exec.Tie as tie

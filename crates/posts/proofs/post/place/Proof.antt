@@ -1,21 +1,23 @@
 -- `post::place` meets its contract: the part of memory is the region. Assumes nothing.
+use Prim.Native.Nat.{_≤_}
 use native.Mathlib.Omega.{arith}
 use lib.ListN.{length}
 use borrow.Author.Needs.{needs}
-use Rattle.posts.specs.PostLaws.{part-short, Placed, placed, place-comes, place-stops}
+use Rattle.state.specs.RegionLaws.{part-ordered, part-ends}
+use Rattle.posts.specs.PostLaws.{part-short, place-comes, place-stops}
 use Rattle.posts.proofs.post.place.Statement.{statement}
 use Rattle.posts.proofs.post.place.Tie as tie
 
--- the part's place in memory
-found : (c : tie.After-put-arg) →
-    let g = c .before .before in
-    let a = g .before .before .before .before .before .args in
-    Placed (length (a .memory .now)) (a .at) (a .n) (g .region .given .0 .0) (g .region .given .0 .1 .0)
-found c =
-    let g = c .before .before in
-    let m = g .before .before in
+-- the part that the region found, in order and within memory
+part : (c : tie.After-put-arg) →
+    let a = c .before .before .before .before .before .before .before .args in
+    let g = c .before .before .region .given .0 in
+    (g .0 ≤ g .1 .0) × (g .1 .0 ≤ length (a .memory .now))
+part c =
+    let m = c .before .before .before .before in
     let a = m .before .before .before .args in
-    placed (a .memory .now) (a .at) (a .n) _ (m .mem-region .ensures) _ _ (g .region .given .1)
+    (part-ordered (length (a .memory .now)) (a .at) (a .n) _ (m .mem-region .ensures) _ _ (c .before .before .region .given .1),
+    part-ends (length (a .memory .now)) (a .at) (a .n) _ (m .mem-region .ensures) _ _ (c .before .before .region .given .1))
 
 mem-region-requires : tie.Need-mem-region-requires
 mem-region-requires c κs = search needs
@@ -24,13 +26,13 @@ enum-known-region : tie.Need-enum-known-region
 enum-known-region c = search needs
 
 sub-put : tie.Need-sub-put
-sub-put c = omega (arith, found c)
+sub-put c = part c .0
 
 part-put-start : tie.Need-part-put-start
-part-put-start c = omega (arith, found c)
+part-put-start c = omega (arith, part c)
 
 part-put-end : tie.Need-part-put-end
-part-put-end c = omega (arith, found c)
+part-put-end c = part c .1
 
 put-requires : tie.Need-put-requires
 put-requires c κs =

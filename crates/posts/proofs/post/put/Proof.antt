@@ -2,7 +2,8 @@
 use borrow.Author.Needs.{needs}
 use Rattle.effects.specs.Log.{Effect}
 use Rattle.posts.specs.Putting.{totalling}
-use Rattle.posts.specs.ComesLaws.{paid-is, pay-comes, pay-ends}
+use Rattle.machine.specs.TurnLaws.{paid-is}
+use Rattle.posts.specs.ComesLaws.{pay-comes, pay-ends}
 use Rattle.posts.proofs.post.put.Statement.{statement}
 use Rattle.posts.proofs.post.put.Tie as tie
 

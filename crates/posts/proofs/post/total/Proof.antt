@@ -6,7 +6,8 @@ use borrow.Author.Needs.{needs}
 use Rattle.effects.specs.Log.{Effect}
 use Rattle.machine.specs.PostRules.{posting}
 use Rattle.machine.specs.declared.run.Run.{Run}
-use Rattle.posts.specs.ComesLaws.{paid-is, pay-comes, pay-ends}
+use Rattle.machine.specs.TurnLaws.{paid-is}
+use Rattle.posts.specs.ComesLaws.{pay-comes, pay-ends}
 use Rattle.posts.specs.PostLaws.{countedTo, total-over, total-comes}
 use Rattle.posts.proofs.post.total.Statement.{statement}
 use Rattle.posts.proofs.post.total.Tie as tie

@@ -7,8 +7,7 @@ use Rattle.words.specs.Bytes.{num}
 use Rattle.keys.specs.Values.{look}
 use Rattle.keys.specs.LoadLaws.{load-ready}
 use Rattle.keys.specs.Bridge.{Given, bufs, given}
-use Rattle.machine.specs.Bridge.{Bufs}
-use Rattle.storage.specs.Answered.{lentTo}
+use Rattle.machine.specs.Bridge.{Bufs, lentTo}
 use Rattle.storage.specs.LoadLaws.{load-denied, load-full, load-done}
 use Rattle.storage.proofs.load.load_key.Statement.{statement}
 use Rattle.storage.proofs.load.load_key.Tie as tie

@@ -6,8 +6,7 @@ use borrow.Author.Tests.{not-true, not-false}
 use Rattle.words.specs.Bytes.{num}
 use Rattle.keys.specs.StoreLaws.{store-ready}
 use Rattle.keys.specs.Bridge.{Given, bufs, given}
-use Rattle.machine.specs.Bridge.{Bufs}
-use Rattle.storage.specs.Answered.{lentTo}
+use Rattle.machine.specs.Bridge.{Bufs, lentTo}
 use Rattle.storage.specs.StoreLaws.{store-denied, store-unpaid, store-full, store-done}
 use Rattle.storage.proofs.store.store_key.Statement.{statement}
 use Rattle.storage.proofs.store.store_key.Tie as tie

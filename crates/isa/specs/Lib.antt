@@ -1,11 +1,13 @@
 pub mod Table
 pub mod Forms
 pub mod Codec
+pub mod Reads
 pub mod Answers
 pub mod Told
 pub mod Computed
 pub mod TableLaws
 pub mod FormLaws
+pub mod ReadsLaws
 pub mod DecodeLaws
 pub mod EncodeLaws
 pub mod Range

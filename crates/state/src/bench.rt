@@ -42,3 +42,22 @@ pub fn bench_by_value(file: RegFile, i: Instr) -> Stepped
     }
     file.step(i)
 }
+
+// The same on a file that is lent: it holds what the operation hands back, or stays as it was where the step is refused.
+pub fn bench_step(file: &mut RegFile, i: Instr) -> u64
+    ensures { λ n. ⌜ record { file = now (file .exit); fault = n } ≡ benchOf i (now (file .entry)) ⌝ }
+{
+    let f = *file;
+    let s = bench_by_value(f, i);
+    *file = s.file;
+    s.fault
+}
+
+// The bench step for callers that have a file by value: a local is lent to it.
+pub fn bench_local(file: RegFile, i: Instr) -> Stepped
+    ensures { λ s. ⌜ s ≡ benchOf i file ⌝ }
+{
+    let mut lent = file;
+    let fault = bench_step(&mut lent, i);
+    Stepped { file: lent, fault }
+}

@@ -2,6 +2,7 @@ pub mod Table
 pub mod Forms
 pub mod Codec
 pub mod Reads
+pub mod Cursor
 pub mod Answers
 pub mod Told
 pub mod Computed

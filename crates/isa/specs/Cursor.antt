@@ -17,9 +17,9 @@ cursorAt code at = record { code = code; at = at }
 abbrev pub Reading : (List ℕ → ℕ → Read) → (c d : Cursor) → Got → Type 0
 Reading rule c d g = (d .code ≡ c .code) × (reads g (d .at) ≡ rule (now (c .code)) (c .at))
 
--- a byte at a place, and a register at the place after that
+-- a byte at a place, and a register at the place after it
+abbrev pub thenReg : List ℕ → Read → TwoReads
+thenReg code b = record { byte = b .got; reg = regRead code (b .at) .got; at = regRead code (b .at) .at }
+
 abbrev pub byteThenReg : List ℕ → ℕ → TwoReads
-byteThenReg code at = after (byteRead code at)
-  where
-    after : Read → TwoReads
-    after b = record { byte = b .got; reg = regRead code (b .at) .got; at = regRead code (b .at) .at }
+byteThenReg code at = thenReg code (byteRead code at)

@@ -9,6 +9,7 @@ pub mod Computed
 pub mod TableLaws
 pub mod FormLaws
 pub mod ReadsLaws
+pub mod CursorLaws
 pub mod DecodeLaws
 pub mod EncodeLaws
 pub mod Range

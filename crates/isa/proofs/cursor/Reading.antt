@@ -84,11 +84,14 @@ body callee = record {
 
 module _ (rule : List ℕ → ℕ → Read) where
   -- the contracts of a read and of its callee, over the callee's rule
-  abbrev readClauses : {M : Type 1} (𝓤 : URA M) → Clauses 𝓤 self.ended
+  abbrev pub readClauses : {M : Type 1} (𝓤 : URA M) → Clauses 𝓤 self.ended
   readClauses 𝓤 κs a = record { ghost = Unit {0}; requires = λ _. emp 𝓤; ensures = λ _ g e. fact 𝓤 (Reading rule (now (a .0)) (now (e .0)) g) }
 
   abbrev workClauses : {M : Type 1} (𝓤 : URA M) → Clauses 𝓤 work.ended
   workClauses 𝓤 κs a = record { ghost = Unit {0}; requires = λ _. emp 𝓤; ensures = λ _ r e. fact 𝓤 (r ≡ rule (now (a .0)) (a .1 .0)) }
+
+  abbrev pub Lent : {M : Type 1} (𝓤 : URA M) (H : Heap 𝓤) → Atoms 𝓤 → Contract 𝓤
+  Lent 𝓤 H A = tripleOf 𝓤 H A self.signature (closing 𝓤 H A self.ended (readClauses 𝓤))
 
   abbrev pub Work : {M : Type 1} (𝓤 : URA M) (H : Heap 𝓤) → Atoms 𝓤 → Contract 𝓤
   Work 𝓤 H A = tripleOf 𝓤 H A work.signature (closing 𝓤 H A work.ended (workClauses 𝓤))

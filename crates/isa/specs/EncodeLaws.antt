@@ -14,7 +14,6 @@ use Rattle.isa.specs.declared.instr.Parts.{Parts}
 use Rattle.isa.specs.declared.codec.EncodeError.the-variants.{BadRegister, NoRoom}
 use Rattle.isa.specs.declared.codec.Encoded.{Encoded}
 use Rattle.isa.specs.declared.codec.Encoded.the-variants.{Done, Refused}
-use Rattle.isa.specs.declared.codec.FirstBad.{FirstBad}
 use Rattle.isa.specs.declared.codec.FirstBad.the-variants.{Bad, NoneBad}
 use Rattle.isa.specs.Table.{rowOf, lengthOf, regsOf, wideOf}
 use Rattle.isa.specs.TableLaws.{small}
@@ -58,6 +57,17 @@ six-regs i =
     let k : n ≤ length r = omega (arith, length-regs i) in
     sym (from-take n (six r) (small (formOf i .op) .regs)) ∙ from-six n r (small (formOf i .op) .regs) ∙ from-take n r k ∙ take-all n r (omega (arith, length-regs i))
 
+-- an instruction taken apart, and its opcode's row
+module _ (i : Instr) (p : Parts) (row : Row) (ep : p ≡ padded (formOf i)) (er : row ≡ rowOf (p .0)) where
+  row-is : row ≡ rowOf (formOf i .op)
+  row-is = er ∙ ap (λ (q : Parts). rowOf (q .0)) ep
+
+  pub regs-stand : row .1 ≤ length (p .1)
+  regs-stand = rw (row-is, ep) (small (formOf i .op) .regs)
+
+  pub regs-are : take (row .1) (p .1) ≡ formOf i .regs
+  regs-are = rw (row-is, ep) (six-regs i)
+
 module _ (i : Instr) (out : List ℕ) where
   -- an answer, with the output that goes with it
   pub record Answers (a : Encoded) (e : List ℕ) : Type 0 where
@@ -68,30 +78,21 @@ module _ (i : Instr) (out : List ℕ) where
   unfolding outputOf
   by a e p q = record { answer = p; output = q ∙ ap (λ (x : Encoded). outputAfter x (bytesOf i) out) p }
 
-  module _ (p : Parts) (row : Row) (ep : p ≡ padded (formOf i)) (er : row ≡ rowOf (p .0)) where
-    row-is : row ≡ rowOf (formOf i .op)
-    row-is = er ∙ ap (λ (q : Parts). rowOf (q .0)) ep
+  pub encoded-bad : (b : ℕ) → firstBad (formOf i .regs) ≡ Bad b → Answers (Refused (BadRegister b)) out
+  unfolding encodedOf encodedWith outputAfter
+  encoded-bad b h = by (Refused (BadRegister b)) out (rw h) refl
 
-    pub regs-stand : row .1 ≤ length (p .1)
-    regs-stand = rw (row-is, ep) (small (formOf i .op) .regs)
-
-    regs-are : take (row .1) (p .1) ≡ formOf i .regs
-    regs-are = rw (row-is, ep) (six-regs i)
-
-    encoded-by : (f : FirstBad) → firstBad (take (row .1) (p .1)) ≡ f → encodedWith f (1 + row .1 + row .2) (length out) ≡ encodedOf i out
+  module _ (p : Parts) (row : Row) (ep : p ≡ padded (formOf i)) (er : row ≡ rowOf (p .0)) (h : firstBad (formOf i .regs) ≡ NoneBad) where
+    size-decides : encodedWith NoneBad (1 + row .1 + row .2) (length out) ≡ encodedOf i out
     unfolding encodedOf
-    encoded-by f h = rw (← h, regs-are, length-bytes i, row-is)
+    size-decides = rw (h, length-bytes i, row-is i p row ep er)
 
-    pub encoded-bad : (b : ℕ) → firstBad (take (row .1) (p .1)) ≡ Bad b → Answers (Refused (BadRegister b)) out
+    pub encoded-no-room : length out < 1 + row .1 + row .2 → Answers (Refused NoRoom) out
     unfolding encodedWith outputAfter
-    encoded-bad b h = by (Refused (BadRegister b)) out (encoded-by (Bad b) h) refl
+    encoded-no-room l = by (Refused NoRoom) out (sym (rw (lt-leb (1 + row .1 + row .2) (length out) l)) ∙ size-decides) refl
 
-    pub encoded-no-room : firstBad (take (row .1) (p .1)) ≡ NoneBad → length out < 1 + row .1 + row .2 → Answers (Refused NoRoom) out
-    unfolding encodedWith outputAfter
-    encoded-no-room h l = by (Refused NoRoom) out (sym (rw (lt-leb (1 + row .1 + row .2) (length out) l)) ∙ encoded-by NoneBad h) refl
-
-    pub encoded-done : firstBad (take (row .1) (p .1)) ≡ NoneBad → 1 + row .1 + row .2 ≤ length out → (e : List ℕ) →
+    pub encoded-done : 1 + row .1 + row .2 ≤ length out → (e : List ℕ) →
         e ≡ (row .0 ∷ take (row .1) (p .1) ++ beBytes (row .2) (p .2)) ++ drop (1 + row .1 + row .2) out → Answers (Done (1 + row .1 + row .2)) e
     unfolding encodedWith outputAfter bytesOf
-    encoded-done h l e q =
-        by (Done (1 + row .1 + row .2)) e (sym (rw (le-leb (1 + row .1 + row .2) (length out) l)) ∙ encoded-by NoneBad h) (q ∙ rw (regs-are, row-is, ep))
+    encoded-done l e q =
+        by (Done (1 + row .1 + row .2)) e (sym (rw (le-leb (1 + row .1 + row .2) (length out) l)) ∙ size-decides) (q ∙ rw (regs-are i p row ep er, row-is i p row ep er, ep))

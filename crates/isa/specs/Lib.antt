@@ -1,11 +1,15 @@
 pub mod Table
 pub mod Forms
 pub mod Codec
+pub mod Reads
+pub mod Cursor
 pub mod Answers
 pub mod Told
 pub mod Computed
 pub mod TableLaws
 pub mod FormLaws
+pub mod ReadsLaws
+pub mod CursorLaws
 pub mod DecodeLaws
 pub mod EncodeLaws
 pub mod Range

@@ -5,8 +5,9 @@ ghost use Prim.Native.Nat.{_+_, _≤_, _<_, _^_};
 ghost use lib.ListN.{length, getD, take, drop};
 ghost use Rattle.words.specs.Bytes.{beBytes};
 ghost use Rattle.isa.specs.Table.{wideOf};
-ghost use Rattle.isa.specs.Forms.{instrOf};
+ghost use Rattle.isa.specs.Forms.{formOf, instrOf};
 ghost use Rattle.isa.specs.Codec.{firstBad, operandsOf, decodeAt, encodedOf, outputOf};
+ghost use Rattle.isa.specs.Reads.{byteRead, regRead};
 ghost use Rattle.isa.specs.Answers.{decodeError, encodeError};
 use super::instr::Instr;
 use super::opcode::Op;
@@ -21,6 +22,18 @@ pub enum DecodeError {
 pub enum Decoded {
     Done(Instr, usize),
     Refused(DecodeError),
+}
+
+// What stands at a place.
+pub enum Got {
+    Byte(u8),
+    Refused(DecodeError),
+}
+
+// What was read, and the place of the next read.
+pub struct Read {
+    pub got: Got,
+    pub at: usize,
 }
 
 pub enum EncodeError {
@@ -77,6 +90,43 @@ impl EncodeError {
             EncodeError::BadRegister(b) => b as u64,
             EncodeError::NoRoom => 0,
         }
+    }
+}
+
+// The byte at a place of the code.
+pub fn read_byte(code: &[u8], at: usize) -> Read
+    ensures { λ r. ⌜ r ≡ byteRead (now (code .entry)) at ⌝ }
+{
+    if code.len() <= at {
+        return Read {
+            got: Got::Refused(DecodeError::Truncated),
+            at,
+        };
+    }
+    let b = code[at];
+    Read {
+        got: Got::Byte(b),
+        at: at + 1,
+    }
+}
+
+// The byte at a place of the code, which must be a register; a byte that is none has been read all the same.
+pub fn read_reg(code: &[u8], at: usize) -> Read
+    ensures { λ r. ⌜ r ≡ regRead (now (code .entry)) at ⌝ }
+{
+    let r = read_byte(code, at);
+    let got = r.got;
+    match got {
+        Got::Byte(b) => {
+            if b >= OpCode::NUM_REGS {
+                return Read {
+                    got: Got::Refused(DecodeError::BadRegister(b)),
+                    at: r.at,
+                };
+            }
+            r
+        }
+        Got::Refused(_) => r,
     }
 }
 
@@ -140,14 +190,15 @@ fn operands(op: OpCode, s: &[u8]) -> Decoded
 pub fn decode(code: &[u8], place: usize) -> Decoded
     ensures { λ r. ⌜ r ≡ decodeAt (now (code .entry)) place ⌝ }
 {
-    if code.len() <= place {
+    let first = read_byte(code, place);
+    let got = first.got;
+    let Got::Byte(b) = got else {
         return Decoded::Refused(DecodeError::Truncated);
-    }
-    let b = code[place];
+    };
     let Op::Known(op) = OpCode::from_byte(b) else {
         return Decoded::Refused(DecodeError::UnknownOpcode(b));
     };
-    let at = place + 1;
+    let at = first.at;
     operands(op, &code[at..])
 }
 
@@ -161,20 +212,31 @@ fn put(out: &mut [u8], byte: u8, r: &[u8], n: usize, num: u64, w: usize)
     words::bytes::write(out, 1 + n, w, num);
 }
 
+// The first register of 16 or more that an instruction names.
+pub fn bad_register(i: Instr) -> FirstBad
+    ensures { λ r. ⌜ r ≡ firstBad (formOf i .regs) ⌝ }
+{
+    let p = i.parts_of();
+    let op = p.0;
+    let r = p.1;
+    let row = op.row();
+    first_bad(&r, row.1)
+}
+
 // The bytes of an instruction into the output, and how many; a refusal leaves the output as it is.
 pub fn encode(i: Instr, out: &mut [u8]) -> Encoded
     ensures answer { λ r. ⌜ r ≡ encodedOf i (now (out .entry)) ⌝ }
     ensures output { λ _. ⌜ now (out .exit) ≡ outputOf i (now (out .entry)) ⌝ }
 {
+    if let FirstBad::Bad(b) = bad_register(i) {
+        return Encoded::Refused(EncodeError::BadRegister(b));
+    }
     let p = i.parts_of();
     let op = p.0;
     let r = p.1;
     let row = op.row();
     let n = row.1;
     let w = row.2;
-    if let FirstBad::Bad(b) = first_bad(&r, n) {
-        return Encoded::Refused(EncodeError::BadRegister(b));
-    }
     let size = 1 + n + w;
     if out.len() < size {
         return Encoded::Refused(EncodeError::NoRoom);

@@ -2,12 +2,14 @@ pub mod Alu
 pub mod Regs
 pub mod Memory
 pub mod Stack
+pub mod Bench
 pub mod Answers
 pub mod AluLaws
 pub mod RegsLaws
 pub mod RegionLaws
 pub mod MemoryLaws
 pub mod StackLaws
+pub mod BenchLaws
 pub mod RegsTheorems
 pub mod StackTheorems
 pub mod Cases

@@ -1,0 +1,34 @@
+-- `read_reg` meets its contract, a law for each return. Assumes nothing.
+use denote.Ref.{now}
+use borrow.Author.Needs.{needs}
+use Rattle.isa.specs.ReadsLaws.{reg-is, reg-none, reg-missing}
+use Rattle.isa.proofs.codec.read_reg.Statement.{statement}
+use Rattle.isa.proofs.codec.read_reg.Tie as tie
+
+read-byte-requires : tie.Need-read-byte-requires
+read-byte-requires c κs = search needs
+
+enum-known-got : tie.Need-enum-known-got
+enum-known-got c = search needs
+
+returns : tie.Need-returns
+returns c =
+    let a = c .before .before .before .before .before .before .args in
+    reg-none (now (a .code)) (a .at) (c .before .before .before .before .read-byte .result) (c .before .before .before .before .read-byte .ensures) (c .before .before .got .given .0 .0) (c .before .before .got .given .1) (c .if1 .taken)
+
+enum-told : tie.Need-enum-told
+enum-told c = search needs
+
+returns-2 : tie.Need-returns-2
+returns-2 c =
+    let a = c .before .before .before .before .before .before .args in
+    reg-is (now (a .code)) (a .at) (c .before .before .before .before .read-byte .result) (c .before .before .before .before .read-byte .ensures) (c .before .before .got .given .0 .0) (c .before .before .got .given .1) (c .if1 .left)
+
+returns-3 : tie.Need-returns-3
+returns-3 c =
+    let a = c .before .before .before .before .args in
+    reg-missing (now (a .code)) (a .at) (c .before .before .read-byte .result) (c .before .before .read-byte .ensures) (c .enum-told .given .0 .0) (c .enum-told .given .1)
+
+pub read-reg-spec : {M : Type 1} → statement M
+read-reg-spec =
+    tie.close (tie.spec read-byte-requires enum-known-got returns enum-told returns-2 returns-3)

@@ -1,0 +1,3 @@
+-- What the proofs of more than one read use.
+mod Reading
+mod Lending

@@ -1,0 +1,47 @@
+-- `bench_by_value` meets its contract, a law for each return. Assumes nothing.
+use borrow.Author.Tests.{not-true, not-false}
+use borrow.Author.Needs.{needs}
+use Rattle.state.specs.BenchLaws.{not-register, register-bad, register-step}
+use Rattle.state.proofs.bench.bench_by_value.Statement.{statement}
+use Rattle.state.proofs.bench.bench_by_value.Tie as tie
+
+parts-of-requires : tie.Need-parts-of-requires
+parts-of-requires c κs = search needs
+
+is-register-op-requires : tie.Need-is-register-op-requires
+is-register-op-requires c κs = search needs
+
+returns : tie.Need-returns
+returns c = not-register (c .before .before .before .args .i) (c .before .before .before .args .file) (c .before .before .parts-of .result) (c .before .before .parts-of .ensures) (c .before .is-register-op .result) (c .before .is-register-op .ensures) (not-true _ (c .if1 .taken))
+
+bad-register-requires : tie.Need-bad-register-requires
+bad-register-requires c κs = search needs
+
+enum-told : tie.Need-enum-told
+enum-told c = search needs
+
+returns-2 : tie.Need-returns-2
+returns-2 c = register-bad (c .before .before .before .before .before .before .args .i) (c .before .before .before .before .before .before .args .file) (c .before .before .before .before .before .parts-of .result) (c .before .before .before .before .before .parts-of .ensures) (c .before .before .before .before .is-register-op .result) (c .before .before .before .before .is-register-op .ensures) (not-false _ (c .before .before .before .if1 .left)) (c .before .before .bad-register .result) (c .before .before .bad-register .ensures) (c .enum-told .given .0 .0) (c .enum-told .given .1)
+
+enum-told-2 : tie.Need-enum-told-2
+enum-told-2 c = search needs
+
+step-requires : tie.Need-step-requires
+step-requires c κs = search needs
+
+returns-3 : tie.Need-returns-3
+returns-3 c = register-step (c .before .before .before .before .before .before .before .args .i) (c .before .before .before .before .before .before .before .args .file) (c .before .before .before .before .before .before .parts-of .result) (c .before .before .before .before .before .before .parts-of .ensures) (c .before .before .before .before .before .is-register-op .result) (c .before .before .before .before .before .is-register-op .ensures) (not-false _ (c .before .before .before .before .if1 .left)) (c .before .before .before .bad-register .result) (c .before .before .before .bad-register .ensures) (c .before .enum-told2 .given .1) (c .step .result) (c .step .ensures)
+
+pub bench-by-value-spec : {M : Type 1} → statement M
+bench-by-value-spec =
+    tie.close
+    (tie.spec
+    parts-of-requires
+    is-register-op-requires
+    returns
+    bad-register-requires
+    enum-told
+    returns-2
+    enum-told-2
+    step-requires
+    returns-3)

@@ -15,4 +15,3 @@ pub mod EncodeLaws
 pub mod Range
 pub mod RoundTrip
 pub mod Refusals
-pub mod Cases

@@ -2,4 +2,3 @@ pub mod Prices
 pub mod Meter
 pub mod Laws
 pub mod Theorems
-pub mod Cases

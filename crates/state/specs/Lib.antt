@@ -12,4 +12,3 @@ pub mod StackLaws
 pub mod BenchLaws
 pub mod RegsTheorems
 pub mod StackTheorems
-pub mod Cases

@@ -15,4 +15,5 @@ pub mod EncodeLaws
 pub mod Range
 pub mod RoundTrip
 pub mod Refusals
+pub mod ReadsTheorems
 pub mod Cases

@@ -15,3 +15,4 @@ pub mod EncodeLaws
 pub mod Range
 pub mod RoundTrip
 pub mod Refusals
+pub mod ReadsTheorems

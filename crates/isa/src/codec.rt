@@ -118,7 +118,7 @@ pub fn read_reg(code: &[u8], at: usize) -> Read
     let got = r.got;
     match got {
         Got::Byte(b) => {
-            if b >= OpCode::NUM_REGS {
+            if OpCode::NUM_REGS <= b {
                 return Read {
                     got: Got::Refused(DecodeError::BadRegister(b)),
                     at: r.at,

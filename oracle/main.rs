@@ -3,6 +3,7 @@
 mod arith;
 mod codec;
 mod input;
+mod judge;
 mod key_steps;
 mod reader;
 mod runs;

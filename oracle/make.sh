@@ -2,19 +2,12 @@
 # Builds the oracle to target/oracle and remakes the vector files.
 set -eu
 cd "$(dirname "$0")/.."
-out=target/oracle
-mkdir -p "$out" crates/codec crates/arith crates/verdicts crates/stores crates/key_steps crates/runs
-
-build() {
-    rustc --edition 2021 -O -C panic=abort -L "$out" --out-dir "$out" "$@"
-}
-build --crate-type rlib --crate-name qtv_crypto oracle/qtv_crypto.rs
-build --crate-type rlib --crate-name qvm --extern qtv_crypto --cfg 'feature="unchecked-programs"' oracle/qvm.rs
-build --crate-name oracle --extern qvm oracle/main.rs
+sh oracle/build.sh
+mkdir -p crates/codec crates/arith crates/verdicts crates/stores crates/key_steps crates/runs
 
 vectors() {
     python3 oracle/vectors.py "$1" > "$2"
-    "$out/oracle" "$1" < "$2" > "$3"
+    target/oracle/oracle "$1" < "$2" > "$3"
 }
 vectors codec crates/codec/stdin crates/codec/stdout
 vectors arith crates/arith/stdin crates/arith/stdout

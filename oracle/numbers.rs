@@ -5,7 +5,7 @@ use crate::interp::Fault;
 use crate::isa::DecodeError;
 
 /// A fault's number is its place here, counted from 1.
-const FAULTS: [Fault; 14] = [
+pub const FAULTS: [Fault; 14] = [
     Fault::OutOfMeter,
     Fault::Overflow,
     Fault::DivByZero,

@@ -1,4 +1,4 @@
-//! The QVM sources, read where they stand and unchanged; crypto.rs alone is replaced, by a player of reply rows.
+//! The QVM sources, read unchanged from the folder QVM_SRC; crypto.rs alone is replaced, by a player of reply rows.
 
 // interp.rs catches a panic of a crypto body as fault 13, which would hide a reply that does not play.
 #[cfg(panic = "unwind")]
@@ -6,7 +6,7 @@ compile_error!("build with -C panic=abort");
 
 pub mod isa {
     mod real {
-        include!("../../shared/docs/src/crates/qtv-vm/src/isa.rs");
+        include!(concat!(env!("QVM_SRC"), "/crates/qtv-vm/src/isa.rs"));
     }
     pub use real::*;
 
@@ -28,12 +28,14 @@ pub mod isa {
     }
 }
 
-#[path = "../../shared/docs/src/crates/qtv-vm/src/abi.rs"]
-pub mod abi;
-#[path = "../../shared/docs/src/crates/qtv-vm/src/container.rs"]
-pub mod container;
+pub mod abi {
+    include!(concat!(env!("QVM_SRC"), "/crates/qtv-vm/src/abi.rs"));
+}
+pub mod container {
+    include!(concat!(env!("QVM_SRC"), "/crates/qtv-vm/src/container.rs"));
+}
 pub mod interp {
-    include!("../../shared/docs/src/crates/qtv-vm/src/interp.rs");
+    include!(concat!(env!("QVM_SRC"), "/crates/qtv-vm/src/interp.rs"));
 
     /// Rows changed, fetched, authorised to read and to write, paid as fresh; bytes of the effect log.
     pub type Sizes = [usize; 6];
@@ -76,10 +78,12 @@ pub mod interp {
         }
     }
 }
-#[path = "../../shared/docs/src/crates/qtv-vm/src/meter.rs"]
-pub mod meter;
-#[path = "../../shared/docs/src/crates/qtv-vm/src/state.rs"]
-pub mod state;
+pub mod meter {
+    include!(concat!(env!("QVM_SRC"), "/crates/qtv-vm/src/meter.rs"));
+}
+pub mod state {
+    include!(concat!(env!("QVM_SRC"), "/crates/qtv-vm/src/state.rs"));
+}
 
 #[path = "player.rs"]
 pub mod crypto;

@@ -1,0 +1,4 @@
+pub mod Boundary
+pub mod BoundaryLaws
+pub mod Words
+pub mod Gateway

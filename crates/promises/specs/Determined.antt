@@ -18,6 +18,8 @@ use Rattle.isa.proofs.codec.decode.Kinds as decode-kinds
 use Rattle.isa.proofs.codec.decode.Reads as decode
 use Rattle.isa.proofs.codec.encode.Kinds as encode-kinds
 use Rattle.isa.proofs.codec.encode.Reads as encode
+use Rattle.isa.proofs.cursor.byte_then_reg.Kinds as byte-then-reg-kinds
+use Rattle.isa.proofs.cursor.byte_then_reg.Reads as byte-then-reg
 use Rattle.meter.proofs.hash_variable.Kinds as hash-variable-kinds
 use Rattle.meter.proofs.hash_variable.Reads as hash-variable
 use Rattle.meter.proofs.message_variable.Kinds as message-variable-kinds
@@ -46,6 +48,8 @@ use Rattle.state.proofs.memory.mem_write.Kinds as mem-write-kinds
 use Rattle.state.proofs.memory.mem_write.Reads as mem-write
 use Rattle.state.proofs.stack.push.Kinds as stack-push-kinds
 use Rattle.state.proofs.stack.push.Reads as stack-push
+use Rattle.state.proofs.bench.bench_local.Kinds as bench-local-kinds
+use Rattle.state.proofs.bench.bench_local.Reads as bench-local
 use Rattle.container.proofs.reader.read.Kinds as container-read-kinds
 use Rattle.container.proofs.reader.read.Reads as container-read
 use Rattle.container.proofs.verify.verify.Kinds as verify-kinds
@@ -60,6 +64,18 @@ use Rattle.interp.proofs.call.for_entry.Kinds as for-entry-kinds
 use Rattle.interp.proofs.call.for_entry.Reads as for-entry
 use Rattle.interp.proofs.call.for_genesis.Kinds as for-genesis-kinds
 use Rattle.interp.proofs.call.for_genesis.Reads as for-genesis
+use Rattle.gateway.proofs.calls.qvm_for_entry.Kinds as qvm-for-entry-kinds
+use Rattle.gateway.proofs.calls.qvm_for_entry.Reads as qvm-for-entry
+use Rattle.gateway.proofs.calls.qvm_for_genesis.Kinds as qvm-for-genesis-kinds
+use Rattle.gateway.proofs.calls.qvm_for_genesis.Reads as qvm-for-genesis
+use Rattle.gateway.proofs.containers.qvm_verify.Kinds as qvm-verify-kinds
+use Rattle.gateway.proofs.containers.qvm_verify.Reads as qvm-verify
+use Rattle.gateway.proofs.containers.qvm_entry_offset.Kinds as qvm-entry-offset-kinds
+use Rattle.gateway.proofs.containers.qvm_entry_offset.Reads as qvm-entry-offset
+use Rattle.gateway.proofs.containers.qvm_canonical_bytes.Kinds as qvm-canonical-bytes-kinds
+use Rattle.gateway.proofs.containers.qvm_canonical_bytes.Reads as qvm-canonical-bytes
+use Rattle.gateway.proofs.settled.qvm_change_list.Kinds as qvm-change-list-kinds
+use Rattle.gateway.proofs.settled.qvm_change_list.Reads as qvm-change-list
 
 -- stated over the contract as its callers learn it: two results, and two contents of what was lent at exit
 abbrev pub Determined : (n : ℕ) (ps : List (PK n)) (r : RK n) → Out n ps r → Type 0
@@ -86,6 +102,9 @@ decode-determined κs a x y u v p q = (p ∙ sym q, refl)
 
 pub encode-determined : Determined _ encode-kinds.ps encode-kinds.r encode.Learnt
 encode-determined κs a x y u v p q = (p .0 ∙ sym (q .0), λ i. (tt, ((p .1 ∙ sym (q .1)) i, tt)))
+
+pub byte-then-reg-determined : Determined _ byte-then-reg-kinds.ps byte-then-reg-kinds.r byte-then-reg.Learnt
+byte-then-reg-determined κs a x y u v p q = (p ∙ sym q, refl)
 
 -- ---- prices and the meter
 
@@ -133,6 +152,9 @@ mem-write-determined κs a x y u v p q = (p .0 ∙ sym (q .0), λ i. ((p .1 ∙ 
 pub stack-push-determined : Determined _ stack-push-kinds.ps stack-push-kinds.r stack-push.Learnt
 stack-push-determined κs a x y u v p q = (p .0 ∙ sym (q .0), λ i. ((p .1 ∙ sym (q .1)) i, (tt, (tt, tt))))
 
+pub bench-local-determined : Determined _ bench-local-kinds.ps bench-local-kinds.r bench-local.Learnt
+bench-local-determined κs a x y u v p q = (p ∙ sym q, refl)
+
 -- ---- containers
 
 pub container-read-determined : Determined _ container-read-kinds.ps container-read-kinds.r container-read.Learnt
@@ -159,3 +181,23 @@ for-entry-determined κs a x y u v p q = let same = p ∙ sym q in (λ i. same i
 
 pub for-genesis-determined : Determined _ for-genesis-kinds.ps for-genesis-kinds.r for-genesis.Learnt
 for-genesis-determined κs a x y u v p q = let same = p ∙ sym q in (λ i. same i .answer, λ i. (tt, (tt, (tt, (tt, (tt, (tt, (tt, (tt, (same i .lent .run .memory, (same i .lent .run .stack, (same i .lent .map, (same i .lent .run .keys .changes, (same i .lent .run .keys .fetched, (same i .lent .run .keys .may-read, (same i .lent .run .keys .may-write, (same i .lent .run .keys .paid, (same i .lent .run .log, tt))))))))))))))))))
+
+-- ---- the C functions
+
+pub qvm-for-entry-determined : Determined _ qvm-for-entry-kinds.ps qvm-for-entry-kinds.r qvm-for-entry.Learnt
+qvm-for-entry-determined κs a x y u v p q = let same = p ∙ sym q in (λ i. same i .given .number, λ i. (tt, (tt, (tt, (tt, (tt, (tt, (tt, (tt, (tt, (tt, (tt, (same i .lent .run .memory, (same i .lent .run .stack, (same i .lent .map, (same i .lent .run .keys .changes, (same i .lent .run .keys .fetched, (same i .lent .run .keys .may-read, (same i .lent .run .keys .may-write, (same i .lent .run .keys .paid, (same i .lent .run .log, (same i .given .answer, tt))))))))))))))))))))))
+
+pub qvm-for-genesis-determined : Determined _ qvm-for-genesis-kinds.ps qvm-for-genesis-kinds.r qvm-for-genesis.Learnt
+qvm-for-genesis-determined κs a x y u v p q = let same = p ∙ sym q in (λ i. same i .given .number, λ i. (tt, (tt, (tt, (tt, (tt, (tt, (tt, (tt, (tt, (tt, (same i .lent .run .memory, (same i .lent .run .stack, (same i .lent .map, (same i .lent .run .keys .changes, (same i .lent .run .keys .fetched, (same i .lent .run .keys .may-read, (same i .lent .run .keys .may-write, (same i .lent .run .keys .paid, (same i .lent .run .log, (same i .given .answer, tt)))))))))))))))))))))
+
+pub qvm-verify-determined : Determined _ qvm-verify-kinds.ps qvm-verify-kinds.r qvm-verify.Learnt
+qvm-verify-determined κs a x y u v p q = let same = p ∙ sym q in (λ i. same i .number, λ i. (tt, (same i .answer, tt)))
+
+pub qvm-entry-offset-determined : Determined _ qvm-entry-offset-kinds.ps qvm-entry-offset-kinds.r qvm-entry-offset.Learnt
+qvm-entry-offset-determined κs a x y u v p q = let same = p ∙ sym q in (λ i. same i .number, λ i. (tt, (tt, (same i .answer, tt))))
+
+pub qvm-canonical-bytes-determined : Determined _ qvm-canonical-bytes-kinds.ps qvm-canonical-bytes-kinds.r qvm-canonical-bytes.Learnt
+qvm-canonical-bytes-determined κs a x y u v p q = let same = p ∙ sym q in (λ i. same i .given .number, λ i. (tt, (tt, (tt, (same i .lent, (same i .given .answer, tt))))))
+
+pub qvm-change-list-determined : Determined _ qvm-change-list-kinds.ps qvm-change-list-kinds.r qvm-change-list.Learnt
+qvm-change-list-determined κs a x y u v p q = let same = p ∙ sym q in (λ i. same i .given .number, λ i. (tt, (tt, (tt, (tt, (tt, (same i .lent, (same i .given .answer, tt))))))))

@@ -17,6 +17,32 @@ abbrev μ-loop : tie.MeasureT-loop
 μ-loop lent host code consts reads writes kreads kwrites store loader replies map memory₀ stack₀ changes₀ fetched₀ readable₀ writable₀ paid₀ log₀ file₀ run₀ memory stack changes fetched readable writable paid log file run =
     suc (run₀ .meter .limit - run₀ .meter .used) - run .fetches
 
+-- ---- places: a turn's head, its step's answer, and the ends of a turn
+
+abbrev start : tie.At-loop Inv-loop μ-loop → tie.Start Inv-loop μ-loop
+start c = c .before .before .before .before .before .before .before .before .before .before .before .before .before .before .before .before .before .before .before .before
+
+abbrev turn : tie.After-step Inv-loop μ-loop → tie.At-loop Inv-loop μ-loop
+turn c = c .before .before .before .before .before .before .before .before .before .before .before .before .before .before .before .before
+
+-- the instruction that the turn fetched
+abbrev told : tie.After-step Inv-loop μ-loop → tie.After-f2 Inv-loop μ-loop
+told c = c .before .before .before .before .before .before .before .before .before .before .before .before .before
+
+abbrev refused : tie.After-struct-known Inv-loop μ-loop → tie.At-loop Inv-loop μ-loop
+refused c = c .before .before .before .before .before
+
+abbrev faulted : tie.Then1 Inv-loop μ-loop → tie.After-step Inv-loop μ-loop
+faulted c = c .before .before .before .before .before .before .before .before .before .before .before .before .before .before .before .before .before .before
+
+abbrev halted : tie.Then2 Inv-loop μ-loop → tie.After-step Inv-loop μ-loop
+halted c = c .before .before .before .before .before .before .before .before .before .before .before .before .before .before .before .before .before .before .before .before .before
+
+abbrev going : tie.Else2 Inv-loop μ-loop → tie.After-step Inv-loop μ-loop
+going c = c .before .before .before .before .before .before .before .before .before .before .before .before .before .before .before .before .before .before .before .before .before
+
+-- ---- the needs
+
 new-requires : tie.Need-new-requires Inv-loop μ-loop
 new-requires c κs = search needs
 
@@ -24,70 +50,42 @@ loop-holds : tie.Need-loop-holds Inv-loop μ-loop
 loop-holds c = loop-begins _ _ _ _ (c .new .ensures)
 
 fetch-requires : tie.Need-fetch-requires Inv-loop μ-loop
-fetch-requires c κs =
-    let start = c .before .before .before .before .before .before .before .before .before .before .before .before .before .before .before .before .before .before .before .before in
-    fetch-fits _ _ _ _ _ _ (c .loop .inv) (start .pre)
+fetch-requires c κs = fetch-fits _ _ _ _ _ _ (c .loop .inv) (start c .pre)
 
 enum-known-f : tie.Need-enum-known-f Inv-loop μ-loop
 enum-known-f c = search needs
 
 add-t31 : tie.Need-add-t31 Inv-loop μ-loop
-add-t31 c = let h = fetch-fits _ _ _ _ _ _ (c .before .before .before .before .before .loop .inv) (c .before .before .before .before .before .before .before .before .before .before .before .before .before .before .before .before .before .before .before .before .before .before .before .before .before .pre) in omega arith
+add-t31 c = omega (arith, fetch-fits _ _ _ _ _ _ (refused c .loop .inv) (start (refused c) .pre))
 
 same-length : tie.Need-same-length Inv-loop μ-loop
-same-length c =
-    let turn = c .before .before .before .before .before in
-    let start = turn .before .before .before .before .before .before .before .before .before .before .before .before .before .before .before .before .before .before .before .before in
-    loop-sizes _ _ _ _ _ _ (turn .loop .inv) (start .pre) .memory
+same-length c = loop-sizes _ _ _ _ _ _ (refused c .loop .inv) (start (refused c) .pre) .memory
 
 same-length-2 : tie.Need-same-length-2 Inv-loop μ-loop
-same-length-2 c =
-    let turn = c .before .before .before .before .before in
-    let start = turn .before .before .before .before .before .before .before .before .before .before .before .before .before .before .before .before .before .before .before .before in
-    loop-sizes _ _ _ _ _ _ (turn .loop .inv) (start .pre) .stack
+same-length-2 c = loop-sizes _ _ _ _ _ _ (refused c .loop .inv) (start (refused c) .pre) .stack
 
 same-length-3 : tie.Need-same-length-3 Inv-loop μ-loop
-same-length-3 c =
-    let turn = c .before .before .before .before .before in
-    let start = turn .before .before .before .before .before .before .before .before .before .before .before .before .before .before .before .before .before .before .before .before in
-    loop-sizes _ _ _ _ _ _ (turn .loop .inv) (start .pre) .changes
+same-length-3 c = loop-sizes _ _ _ _ _ _ (refused c .loop .inv) (start (refused c) .pre) .changes
 
 same-length-4 : tie.Need-same-length-4 Inv-loop μ-loop
-same-length-4 c =
-    let turn = c .before .before .before .before .before in
-    let start = turn .before .before .before .before .before .before .before .before .before .before .before .before .before .before .before .before .before .before .before .before in
-    loop-sizes _ _ _ _ _ _ (turn .loop .inv) (start .pre) .fetched
+same-length-4 c = loop-sizes _ _ _ _ _ _ (refused c .loop .inv) (start (refused c) .pre) .fetched
 
 same-length-5 : tie.Need-same-length-5 Inv-loop μ-loop
-same-length-5 c =
-    let turn = c .before .before .before .before .before in
-    let start = turn .before .before .before .before .before .before .before .before .before .before .before .before .before .before .before .before .before .before .before .before in
-    loop-sizes _ _ _ _ _ _ (turn .loop .inv) (start .pre) .readable
+same-length-5 c = loop-sizes _ _ _ _ _ _ (refused c .loop .inv) (start (refused c) .pre) .readable
 
 same-length-6 : tie.Need-same-length-6 Inv-loop μ-loop
-same-length-6 c =
-    let turn = c .before .before .before .before .before in
-    let start = turn .before .before .before .before .before .before .before .before .before .before .before .before .before .before .before .before .before .before .before .before in
-    loop-sizes _ _ _ _ _ _ (turn .loop .inv) (start .pre) .writable
+same-length-6 c = loop-sizes _ _ _ _ _ _ (refused c .loop .inv) (start (refused c) .pre) .writable
 
 same-length-7 : tie.Need-same-length-7 Inv-loop μ-loop
-same-length-7 c =
-    let turn = c .before .before .before .before .before in
-    let start = turn .before .before .before .before .before .before .before .before .before .before .before .before .before .before .before .before .before .before .before .before in
-    loop-sizes _ _ _ _ _ _ (turn .loop .inv) (start .pre) .paid
+same-length-7 c = loop-sizes _ _ _ _ _ _ (refused c .loop .inv) (start (refused c) .pre) .paid
 
 same-length-8 : tie.Need-same-length-8 Inv-loop μ-loop
-same-length-8 c =
-    let turn = c .before .before .before .before .before in
-    let start = turn .before .before .before .before .before .before .before .before .before .before .before .before .before .before .before .before .before .before .before .before in
-    loop-sizes _ _ _ _ _ _ (turn .loop .inv) (start .pre) .log
+same-length-8 c = loop-sizes _ _ _ _ _ _ (refused c .loop .inv) (start (refused c) .pre) .log
 
 returns : tie.Need-returns Inv-loop μ-loop
 returns c =
     let told = c .before .before in
-    let fetching = told .before .before in
-    let turn = fetching .before in
-    loop-refused _ _ _ _ _ _ (turn .loop .inv) _ _ _ (rw (told .f .given .1) at (fetching .fetch .ensures)) refl
+    loop-refused _ _ _ _ _ _ (refused c .loop .inv) _ _ _ (rw (told .f .given .1) at (told .before .before .fetch .ensures)) refl
 
 enum-known-f-2 : tie.Need-enum-known-f-2 Inv-loop μ-loop
 enum-known-f-2 c = search needs
@@ -95,163 +93,79 @@ enum-known-f-2 c = search needs
 step-requires : tie.Need-step-requires Inv-loop μ-loop
 step-requires c κs =
     let told = c .before .before .before .before .before .before .before .before .before .before .before .before in
-    let fetching = told .before .before in
-    let turn = fetching .before in
-    let start = turn .before .before .before .before .before .before .before .before .before .before .before .before .before .before .before .before .before .before .before .before in
-    step-ready _ _ _ _ _ _ (turn .loop .inv) _ _ (rw (told .f2 .given .1) at (fetching .fetch .ensures)) (start .pre)
+    let head = told .before .before .before in
+    step-ready _ _ _ _ _ _ (head .loop .inv) _ _ (rw (told .f2 .given .1) at (told .before .before .fetch .ensures)) (start head .pre)
 
 same-length-9 : tie.Need-same-length-9 Inv-loop μ-loop
-same-length-9 c =
-    let stepping = c .before .before .before .before .before .before .before .before .before .before .before .before .before .before .before .before .before .before in
-    let turn = stepping .before .before .before .before .before .before .before .before .before .before .before .before .before .before .before .before in
-    let start = turn .before .before .before .before .before .before .before .before .before .before .before .before .before .before .before .before .before .before .before .before in
-    stepping .step .kept .1 .1 .1 .1 .1 .1 .1 .1 .1 .1 .1 .1 .1 .1 .1 .0 ∙ loop-sizes _ _ _ _ _ _ (turn .loop .inv) (start .pre) .memory
+same-length-9 c = faulted c .step .kept .1 .1 .1 .1 .1 .1 .1 .1 .1 .1 .1 .1 .1 .1 .1 .0 ∙ loop-sizes _ _ _ _ _ _ (turn (faulted c) .loop .inv) (start (turn (faulted c)) .pre) .memory
 
 same-length-10 : tie.Need-same-length-10 Inv-loop μ-loop
-same-length-10 c =
-    let stepping = c .before .before .before .before .before .before .before .before .before .before .before .before .before .before .before .before .before .before in
-    let turn = stepping .before .before .before .before .before .before .before .before .before .before .before .before .before .before .before .before in
-    let start = turn .before .before .before .before .before .before .before .before .before .before .before .before .before .before .before .before .before .before .before .before in
-    stepping .step .kept .1 .1 .1 .1 .1 .1 .1 .1 .1 .1 .1 .1 .1 .1 .1 .1 .0 ∙ loop-sizes _ _ _ _ _ _ (turn .loop .inv) (start .pre) .stack
+same-length-10 c = faulted c .step .kept .1 .1 .1 .1 .1 .1 .1 .1 .1 .1 .1 .1 .1 .1 .1 .1 .0 ∙ loop-sizes _ _ _ _ _ _ (turn (faulted c) .loop .inv) (start (turn (faulted c)) .pre) .stack
 
 same-length-11 : tie.Need-same-length-11 Inv-loop μ-loop
-same-length-11 c =
-    let stepping = c .before .before .before .before .before .before .before .before .before .before .before .before .before .before .before .before .before .before in
-    let turn = stepping .before .before .before .before .before .before .before .before .before .before .before .before .before .before .before .before in
-    let start = turn .before .before .before .before .before .before .before .before .before .before .before .before .before .before .before .before .before .before .before .before in
-    stepping .step .kept .1 .1 .1 .1 .1 .1 .1 .1 .1 .1 .1 .1 .1 .1 .1 .1 .1 .0 ∙ loop-sizes _ _ _ _ _ _ (turn .loop .inv) (start .pre) .changes
+same-length-11 c = faulted c .step .kept .1 .1 .1 .1 .1 .1 .1 .1 .1 .1 .1 .1 .1 .1 .1 .1 .1 .0 ∙ loop-sizes _ _ _ _ _ _ (turn (faulted c) .loop .inv) (start (turn (faulted c)) .pre) .changes
 
 same-length-12 : tie.Need-same-length-12 Inv-loop μ-loop
-same-length-12 c =
-    let stepping = c .before .before .before .before .before .before .before .before .before .before .before .before .before .before .before .before .before .before in
-    let turn = stepping .before .before .before .before .before .before .before .before .before .before .before .before .before .before .before .before in
-    let start = turn .before .before .before .before .before .before .before .before .before .before .before .before .before .before .before .before .before .before .before .before in
-    stepping .step .kept .1 .1 .1 .1 .1 .1 .1 .1 .1 .1 .1 .1 .1 .1 .1 .1 .1 .1 .0 ∙ loop-sizes _ _ _ _ _ _ (turn .loop .inv) (start .pre) .fetched
+same-length-12 c = faulted c .step .kept .1 .1 .1 .1 .1 .1 .1 .1 .1 .1 .1 .1 .1 .1 .1 .1 .1 .1 .0 ∙ loop-sizes _ _ _ _ _ _ (turn (faulted c) .loop .inv) (start (turn (faulted c)) .pre) .fetched
 
 same-length-13 : tie.Need-same-length-13 Inv-loop μ-loop
-same-length-13 c =
-    let stepping = c .before .before .before .before .before .before .before .before .before .before .before .before .before .before .before .before .before .before in
-    let turn = stepping .before .before .before .before .before .before .before .before .before .before .before .before .before .before .before .before in
-    let start = turn .before .before .before .before .before .before .before .before .before .before .before .before .before .before .before .before .before .before .before .before in
-    stepping .step .kept .1 .1 .1 .1 .1 .1 .1 .1 .1 .1 .1 .1 .1 .1 .1 .1 .1 .1 .1 .0 ∙ loop-sizes _ _ _ _ _ _ (turn .loop .inv) (start .pre) .readable
+same-length-13 c = faulted c .step .kept .1 .1 .1 .1 .1 .1 .1 .1 .1 .1 .1 .1 .1 .1 .1 .1 .1 .1 .1 .0 ∙ loop-sizes _ _ _ _ _ _ (turn (faulted c) .loop .inv) (start (turn (faulted c)) .pre) .readable
 
 same-length-14 : tie.Need-same-length-14 Inv-loop μ-loop
-same-length-14 c =
-    let stepping = c .before .before .before .before .before .before .before .before .before .before .before .before .before .before .before .before .before .before in
-    let turn = stepping .before .before .before .before .before .before .before .before .before .before .before .before .before .before .before .before in
-    let start = turn .before .before .before .before .before .before .before .before .before .before .before .before .before .before .before .before .before .before .before .before in
-    stepping .step .kept .1 .1 .1 .1 .1 .1 .1 .1 .1 .1 .1 .1 .1 .1 .1 .1 .1 .1 .1 .1 .0 ∙ loop-sizes _ _ _ _ _ _ (turn .loop .inv) (start .pre) .writable
+same-length-14 c = faulted c .step .kept .1 .1 .1 .1 .1 .1 .1 .1 .1 .1 .1 .1 .1 .1 .1 .1 .1 .1 .1 .1 .0 ∙ loop-sizes _ _ _ _ _ _ (turn (faulted c) .loop .inv) (start (turn (faulted c)) .pre) .writable
 
 same-length-15 : tie.Need-same-length-15 Inv-loop μ-loop
-same-length-15 c =
-    let stepping = c .before .before .before .before .before .before .before .before .before .before .before .before .before .before .before .before .before .before in
-    let turn = stepping .before .before .before .before .before .before .before .before .before .before .before .before .before .before .before .before in
-    let start = turn .before .before .before .before .before .before .before .before .before .before .before .before .before .before .before .before .before .before .before .before in
-    stepping .step .kept .1 .1 .1 .1 .1 .1 .1 .1 .1 .1 .1 .1 .1 .1 .1 .1 .1 .1 .1 .1 .1 .0 ∙ loop-sizes _ _ _ _ _ _ (turn .loop .inv) (start .pre) .paid
+same-length-15 c = faulted c .step .kept .1 .1 .1 .1 .1 .1 .1 .1 .1 .1 .1 .1 .1 .1 .1 .1 .1 .1 .1 .1 .1 .0 ∙ loop-sizes _ _ _ _ _ _ (turn (faulted c) .loop .inv) (start (turn (faulted c)) .pre) .paid
 
 same-length-16 : tie.Need-same-length-16 Inv-loop μ-loop
-same-length-16 c =
-    let stepping = c .before .before .before .before .before .before .before .before .before .before .before .before .before .before .before .before .before .before in
-    let turn = stepping .before .before .before .before .before .before .before .before .before .before .before .before .before .before .before .before in
-    let start = turn .before .before .before .before .before .before .before .before .before .before .before .before .before .before .before .before .before .before .before .before in
-    stepping .step .kept .1 .1 .1 .1 .1 .1 .1 .1 .1 .1 .1 .1 .1 .1 .1 .1 .1 .1 .1 .1 .1 .1 .0 ∙ loop-sizes _ _ _ _ _ _ (turn .loop .inv) (start .pre) .log
+same-length-16 c = faulted c .step .kept .1 .1 .1 .1 .1 .1 .1 .1 .1 .1 .1 .1 .1 .1 .1 .1 .1 .1 .1 .1 .1 .1 .0 ∙ loop-sizes _ _ _ _ _ _ (turn (faulted c) .loop .inv) (start (turn (faulted c)) .pre) .log
 
 returns-2 : tie.Need-returns-2 Inv-loop μ-loop
 returns-2 c =
-    let stepping = c .before .before .before .before .before .before .before .before .before .before .before .before .before .before .before .before .before .before in
-    let told = stepping .before .before .before .before .before .before .before .before .before .before .before .before .before in
-    let fetching = told .before .before in
-    let turn = fetching .before in
-    loop-faults _ _ _ _ _ _ (turn .loop .inv) _ _ (rw (told .f2 .given .1) at (fetching .fetch .ensures)) _ _ (stepping .step .ensures) (c .if1 .taken) _
+    let s = faulted c in
+    loop-faults _ _ _ _ _ _ (turn s .loop .inv) _ _ (rw (told s .f2 .given .1) at (told s .before .before .fetch .ensures)) _ _ (s .step .ensures) (c .if1 .taken) _
 
 put-requires : tie.Need-put-requires Inv-loop μ-loop
 put-requires c κs = search needs
 
 same-length-17 : tie.Need-same-length-17 Inv-loop μ-loop
-same-length-17 c =
-    let stepping = c .before .before .before .before .before .before .before .before .before .before .before .before .before .before .before .before .before .before .before .before .before in
-    let turn = stepping .before .before .before .before .before .before .before .before .before .before .before .before .before .before .before .before in
-    let start = turn .before .before .before .before .before .before .before .before .before .before .before .before .before .before .before .before .before .before .before .before in
-    stepping .step .kept .1 .1 .1 .1 .1 .1 .1 .1 .1 .1 .1 .1 .1 .1 .1 .0 ∙ loop-sizes _ _ _ _ _ _ (turn .loop .inv) (start .pre) .memory
+same-length-17 c = halted c .step .kept .1 .1 .1 .1 .1 .1 .1 .1 .1 .1 .1 .1 .1 .1 .1 .0 ∙ loop-sizes _ _ _ _ _ _ (turn (halted c) .loop .inv) (start (turn (halted c)) .pre) .memory
 
 same-length-18 : tie.Need-same-length-18 Inv-loop μ-loop
-same-length-18 c =
-    let stepping = c .before .before .before .before .before .before .before .before .before .before .before .before .before .before .before .before .before .before .before .before .before in
-    let turn = stepping .before .before .before .before .before .before .before .before .before .before .before .before .before .before .before .before in
-    let start = turn .before .before .before .before .before .before .before .before .before .before .before .before .before .before .before .before .before .before .before .before in
-    stepping .step .kept .1 .1 .1 .1 .1 .1 .1 .1 .1 .1 .1 .1 .1 .1 .1 .1 .0 ∙ loop-sizes _ _ _ _ _ _ (turn .loop .inv) (start .pre) .stack
+same-length-18 c = halted c .step .kept .1 .1 .1 .1 .1 .1 .1 .1 .1 .1 .1 .1 .1 .1 .1 .1 .0 ∙ loop-sizes _ _ _ _ _ _ (turn (halted c) .loop .inv) (start (turn (halted c)) .pre) .stack
 
 same-length-19 : tie.Need-same-length-19 Inv-loop μ-loop
-same-length-19 c =
-    let stepping = c .before .before .before .before .before .before .before .before .before .before .before .before .before .before .before .before .before .before .before .before .before in
-    let turn = stepping .before .before .before .before .before .before .before .before .before .before .before .before .before .before .before .before in
-    let start = turn .before .before .before .before .before .before .before .before .before .before .before .before .before .before .before .before .before .before .before .before in
-    stepping .step .kept .1 .1 .1 .1 .1 .1 .1 .1 .1 .1 .1 .1 .1 .1 .1 .1 .1 .0 ∙ loop-sizes _ _ _ _ _ _ (turn .loop .inv) (start .pre) .changes
+same-length-19 c = halted c .step .kept .1 .1 .1 .1 .1 .1 .1 .1 .1 .1 .1 .1 .1 .1 .1 .1 .1 .0 ∙ loop-sizes _ _ _ _ _ _ (turn (halted c) .loop .inv) (start (turn (halted c)) .pre) .changes
 
 same-length-20 : tie.Need-same-length-20 Inv-loop μ-loop
-same-length-20 c =
-    let stepping = c .before .before .before .before .before .before .before .before .before .before .before .before .before .before .before .before .before .before .before .before .before in
-    let turn = stepping .before .before .before .before .before .before .before .before .before .before .before .before .before .before .before .before in
-    let start = turn .before .before .before .before .before .before .before .before .before .before .before .before .before .before .before .before .before .before .before .before in
-    stepping .step .kept .1 .1 .1 .1 .1 .1 .1 .1 .1 .1 .1 .1 .1 .1 .1 .1 .1 .1 .0 ∙ loop-sizes _ _ _ _ _ _ (turn .loop .inv) (start .pre) .fetched
+same-length-20 c = halted c .step .kept .1 .1 .1 .1 .1 .1 .1 .1 .1 .1 .1 .1 .1 .1 .1 .1 .1 .1 .0 ∙ loop-sizes _ _ _ _ _ _ (turn (halted c) .loop .inv) (start (turn (halted c)) .pre) .fetched
 
 same-length-21 : tie.Need-same-length-21 Inv-loop μ-loop
-same-length-21 c =
-    let stepping = c .before .before .before .before .before .before .before .before .before .before .before .before .before .before .before .before .before .before .before .before .before in
-    let turn = stepping .before .before .before .before .before .before .before .before .before .before .before .before .before .before .before .before in
-    let start = turn .before .before .before .before .before .before .before .before .before .before .before .before .before .before .before .before .before .before .before .before in
-    stepping .step .kept .1 .1 .1 .1 .1 .1 .1 .1 .1 .1 .1 .1 .1 .1 .1 .1 .1 .1 .1 .0 ∙ loop-sizes _ _ _ _ _ _ (turn .loop .inv) (start .pre) .readable
+same-length-21 c = halted c .step .kept .1 .1 .1 .1 .1 .1 .1 .1 .1 .1 .1 .1 .1 .1 .1 .1 .1 .1 .1 .0 ∙ loop-sizes _ _ _ _ _ _ (turn (halted c) .loop .inv) (start (turn (halted c)) .pre) .readable
 
 same-length-22 : tie.Need-same-length-22 Inv-loop μ-loop
-same-length-22 c =
-    let stepping = c .before .before .before .before .before .before .before .before .before .before .before .before .before .before .before .before .before .before .before .before .before in
-    let turn = stepping .before .before .before .before .before .before .before .before .before .before .before .before .before .before .before .before in
-    let start = turn .before .before .before .before .before .before .before .before .before .before .before .before .before .before .before .before .before .before .before .before in
-    stepping .step .kept .1 .1 .1 .1 .1 .1 .1 .1 .1 .1 .1 .1 .1 .1 .1 .1 .1 .1 .1 .1 .0 ∙ loop-sizes _ _ _ _ _ _ (turn .loop .inv) (start .pre) .writable
+same-length-22 c = halted c .step .kept .1 .1 .1 .1 .1 .1 .1 .1 .1 .1 .1 .1 .1 .1 .1 .1 .1 .1 .1 .1 .0 ∙ loop-sizes _ _ _ _ _ _ (turn (halted c) .loop .inv) (start (turn (halted c)) .pre) .writable
 
 same-length-23 : tie.Need-same-length-23 Inv-loop μ-loop
-same-length-23 c =
-    let stepping = c .before .before .before .before .before .before .before .before .before .before .before .before .before .before .before .before .before .before .before .before .before in
-    let turn = stepping .before .before .before .before .before .before .before .before .before .before .before .before .before .before .before .before in
-    let start = turn .before .before .before .before .before .before .before .before .before .before .before .before .before .before .before .before .before .before .before .before in
-    stepping .step .kept .1 .1 .1 .1 .1 .1 .1 .1 .1 .1 .1 .1 .1 .1 .1 .1 .1 .1 .1 .1 .1 .0 ∙ loop-sizes _ _ _ _ _ _ (turn .loop .inv) (start .pre) .paid
+same-length-23 c = halted c .step .kept .1 .1 .1 .1 .1 .1 .1 .1 .1 .1 .1 .1 .1 .1 .1 .1 .1 .1 .1 .1 .1 .0 ∙ loop-sizes _ _ _ _ _ _ (turn (halted c) .loop .inv) (start (turn (halted c)) .pre) .paid
 
 same-length-24 : tie.Need-same-length-24 Inv-loop μ-loop
-same-length-24 c =
-    let stepping = c .before .before .before .before .before .before .before .before .before .before .before .before .before .before .before .before .before .before .before .before .before in
-    let turn = stepping .before .before .before .before .before .before .before .before .before .before .before .before .before .before .before .before in
-    let start = turn .before .before .before .before .before .before .before .before .before .before .before .before .before .before .before .before .before .before .before .before in
-    stepping .step .kept .1 .1 .1 .1 .1 .1 .1 .1 .1 .1 .1 .1 .1 .1 .1 .1 .1 .1 .1 .1 .1 .1 .0 ∙ loop-sizes _ _ _ _ _ _ (turn .loop .inv) (start .pre) .log
+same-length-24 c = halted c .step .kept .1 .1 .1 .1 .1 .1 .1 .1 .1 .1 .1 .1 .1 .1 .1 .1 .1 .1 .1 .1 .1 .1 .0 ∙ loop-sizes _ _ _ _ _ _ (turn (halted c) .loop .inv) (start (turn (halted c)) .pre) .log
 
 returns-3 : tie.Need-returns-3 Inv-loop μ-loop
 returns-3 c =
-    let putting = c .before .before in
-    let tested = putting .before in
-    let stepping = tested .before .before .before .before .before .before .before .before .before .before .before .before .before .before .before .before .before .before in
-    let told = stepping .before .before .before .before .before .before .before .before .before .before .before .before .before in
-    let fetching = told .before .before in
-    let turn = fetching .before in
-    loop-halts _ _ _ _ _ _ (turn .loop .inv) _ _ (rw (told .f2 .given .1) at (fetching .fetch .ensures)) _ _ (stepping .step .ensures) (tested .if1 .left) (c .if2 .taken) _ (putting .put .ensures)
+    let s = halted c in
+    loop-halts _ _ _ _ _ _ (turn s .loop .inv) _ _ (rw (told s .f2 .given .1) at (told s .before .before .fetch .ensures)) _ _ (s .step .ensures) (c .before .before .before .if1 .left) (c .if2 .taken) _ (c .before .before .put .ensures)
 
 loop-less : tie.Need-loop-less Inv-loop μ-loop
 loop-less c =
-    let tested = c .before .before .before in
-    let stepping = tested .before .before .before .before .before .before .before .before .before .before .before .before .before .before .before .before .before .before in
-    let told = stepping .before .before .before .before .before .before .before .before .before .before .before .before .before in
-    let fetching = told .before .before in
-    let turn = fetching .before in
-    let start = turn .before .before .before .before .before .before .before .before .before .before .before .before .before .before .before .before .before .before .before .before in
-    loop-shrinks _ _ _ _ _ _ (turn .loop .inv) _ _ (rw (told .f2 .given .1) at (fetching .fetch .ensures)) _ _ (stepping .step .ensures) (start .pre) (tested .if1 .left) (c .if2 .left)
+    let s = going c in
+    loop-shrinks _ _ _ _ _ _ (turn s .loop .inv) _ _ (rw (told s .f2 .given .1) at (told s .before .before .fetch .ensures)) _ _ (s .step .ensures) (start (turn s) .pre) (c .before .before .before .if1 .left) (c .if2 .left)
 
 loop-again : tie.Need-loop-again Inv-loop μ-loop
 loop-again c =
-    let putting = c .before .before in
-    let tested = putting .before in
-    let stepping = tested .before .before .before .before .before .before .before .before .before .before .before .before .before .before .before .before .before .before in
-    let told = stepping .before .before .before .before .before .before .before .before .before .before .before .before .before in
-    let fetching = told .before .before in
-    let turn = fetching .before in
-    loop-goes _ _ _ _ _ _ (turn .loop .inv) _ _ (rw (told .f2 .given .1) at (fetching .fetch .ensures)) _ _ (stepping .step .ensures) (tested .if1 .left) (c .if2 .left) _ (putting .put .ensures)
+    let s = going c in
+    loop-goes _ _ _ _ _ _ (turn s .loop .inv) _ _ (rw (told s .f2 .given .1) at (told s .before .before .fetch .ensures)) _ _ (s .step .ensures) (c .before .before .before .if1 .left) (c .if2 .left) _ (c .before .before .put .ensures)
 
 pub exec-spec : {M : Type 1} → statement M
 exec-spec =

@@ -11,4 +11,5 @@ pub mod StackLaws
 pub mod BenchLaws
 pub mod RegsTheorems
 pub mod StackTheorems
+pub mod BenchTheorems
 pub mod Cases

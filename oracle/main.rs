@@ -1,6 +1,7 @@
-//! The QVM Rust as judge: `oracle codec|arith|verdict|stores|key_steps|runs`, records on standard input, a line each on standard output.
+//! The QVM Rust as judge: `oracle codec|arith|bench|verdict|stores|key_steps|runs`, records on standard input, a line each on standard output.
 
 mod arith;
+mod bench;
 mod codec;
 mod input;
 mod judge;
@@ -18,12 +19,13 @@ fn main() -> io::Result<()> {
     let line: fn(&mut Input) -> Option<String> = match name.as_str() {
         "codec" => codec::line,
         "arith" => arith::line,
+        "bench" => bench::line,
         "verdict" => verdict::line,
         "stores" => stores::line,
         "key_steps" => key_steps::line,
         "runs" => runs::line,
         _ => {
-            eprintln!("usage: oracle codec|arith|verdict|stores|key_steps|runs");
+            eprintln!("usage: oracle codec|arith|bench|verdict|stores|key_steps|runs");
             std::process::exit(2);
         }
     };

@@ -3,7 +3,7 @@
 set -eu
 cd "$(dirname "$0")/.."
 sh oracle/build.sh
-mkdir -p crates/codec crates/arith crates/verdicts crates/stores crates/key_steps crates/runs
+mkdir -p crates/codec crates/arith crates/bench crates/verdicts crates/stores crates/key_steps crates/runs
 
 vectors() {
     python3 oracle/vectors.py "$1" > "$2"
@@ -11,6 +11,7 @@ vectors() {
 }
 vectors codec crates/codec/stdin crates/codec/stdout
 vectors arith crates/arith/stdin crates/arith/stdout
+vectors bench crates/bench/stdin crates/bench/stdout
 vectors verdict crates/verdicts/stdin crates/verdicts/stdout
 vectors stores crates/stores/stdin crates/stores/stdout
 vectors key_steps crates/key_steps/stdin crates/key_steps/stdout

@@ -1,4 +1,4 @@
-"""Records for the oracle: `python3 oracle/vectors.py codec|arith|verdict|stores|key_steps|runs`, written to standard output."""
+"""Records for the oracle: `python3 oracle/vectors.py codec|arith|bench|verdict|stores|key_steps|runs`, written to standard output."""
 
 import itertools
 import random
@@ -207,6 +207,54 @@ def arith(source):
     for number, divisor in two_word_pairs(source):
         for opcode in (DIVW, REMW):
             yield record(opcode, *divmod(number, WORD), *divmod(divisor, WORD))
+
+
+# bench
+
+ON_BENCH = [MOV, LDI, *(op for op in OPCODES if 16 <= op <= 42)]
+
+
+def bench_step(opcode, registers=(), word=0):
+    """Registers that the instruction does not name are 255: they are not looked at."""
+    return bytes([opcode, *registers, *[255] * (6 - len(registers))]) + big(word, 8)
+
+
+def bench(source):
+    def load(values):
+        for d, value in enumerate(values):
+            yield bench_step(LDI, [d], value)
+
+    def shape(opcode):
+        return SHAPES[opcode].count("r")
+
+    # Edges in every register, then each operation into each kind of target: another register, an operand's own.
+    yield from load([*EDGES, 3, 7, 10**18])
+    for opcode in ON_BENCH:
+        for registers in ([6, 3, 2, 11, 14, 1], [2, 2, 2, 2, 2, 2], [0, 15, 8, 12, 15, 0], [14, 14, 12, 5, 14, 0]):
+            yield bench_step(opcode, registers[:shape(opcode)], 2**40 + opcode)
+    # Overflow, a divisor of 0, and no other fault: the file stays.
+    yield from load([WORD - 1, 1, 0, 5, 6, 2**32])
+    for opcode in ON_BENCH:
+        if shape(opcode) == 3:
+            for a, b in ((0, 1), (1, 0), (5, 5), (0, 2), (2, 3)):
+                yield bench_step(opcode, [9, a, b])
+        elif shape(opcode) == 6:
+            for divisor in ((2, 2), (2, 1), (1, 2)):
+                yield bench_step(opcode, [9, 10, 0, 5, *divisor])
+                yield bench_step(opcode, [9, 9, 0, 5, *divisor])
+    # 50 before 16, and 16 at each register of each operation.
+    for opcode in OPCODES:
+        if opcode not in ON_BENCH:
+            yield bench_step(opcode, [3, 4, 5])
+            yield bench_step(opcode, [16, 17, 255])
+        else:
+            for place in range(shape(opcode)):
+                for register in (15, 16, 255):
+                    yield bench_step(opcode, with_byte(bytes([9, 10, 0, 5, 1, 3][:shape(opcode)]), place, register), 77)
+    for _ in range(250):
+        opcode = source.pick(ON_BENCH + [LDI] * 8)
+        registers = [source.below(16) for _ in range(shape(opcode))]
+        yield bench_step(opcode, registers, source.bits(source.below(65)))
 
 
 # verdict
@@ -427,5 +475,5 @@ def key_steps(source):
 if __name__ == "__main__":
     from runs import runs
 
-    makers = {"codec": codec, "arith": arith, "verdict": verdict, "stores": stores, "key_steps": key_steps, "runs": runs}
+    makers = {"codec": codec, "arith": arith, "bench": bench, "verdict": verdict, "stores": stores, "key_steps": key_steps, "runs": runs}
     sys.stdout.buffer.write(b"".join(makers[sys.argv[1]](Source())))

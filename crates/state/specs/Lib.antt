@@ -12,3 +12,4 @@ pub mod StackLaws
 pub mod BenchLaws
 pub mod RegsTheorems
 pub mod StackTheorems
+pub mod BenchTheorems

@@ -54,19 +54,18 @@ use Rattle.isa.proofs.cursor.Cursor as T
 use Rattle.isa.proofs.cursor.Cursor.Laws as T′
 use Rattle.isa.proofs.cursor.Cursor.byte as self
 
--- 'a, and the struct's type at it
+-- 'a is the signature's second lifetime; what is lent is a Cursor at it
 abbrev α : Lft → NamedLft
-α κ′ = record { mir = named 1; lft = κ′ }
+α κ′ = namedLft 2 1 tt ([], (κ′, tt))
 
-abbrev B : Lft → RattleType
-B κ′ = T.the-row (α κ′)
+abbrev referent : Slot 2
+referent = plain (λ κs. T.the-row (namedLft 2 1 tt κs))
 
--- `Cursor<'a>`, as the referent's place in the signature
-abbrev behind : Slot 2
-behind = plain (λ κs. T.the-row (namedLft 2 1 tt κs))
+abbrev Row : Lft → RattleType
+Row κ′ = T.the-row (α κ′)
 
 abbrev stayed : Stays (self.ended .signature .params) (self.ended .kept)
-stayed = (stay-ref (0 ∷ []) tt behind, tt)
+stayed = (stay-ref (0 ∷ []) tt referent, tt)
 
 -- the MIR of a read, over its callee
 abbrev body : Name → Fn
@@ -74,7 +73,7 @@ body callee = record {
   lifetimes = 2;
   outlives = (1, 0) ∷ [];
   params = 1;
-  locals = local G′.mir valueLocal ∷ local (tyRef (named 0) mut (pointee (B [] .written))) valueLocal ∷ local S′.mir valueLocal ∷ local (lone (ShrSlice erased [] u8 .mir)) valueLocal ∷ local (tyInt w64) valueLocal ∷ [];
+  locals = local G′.mir valueLocal ∷ local (tyRef (named 0) mut (pointee (Row [] .written))) valueLocal ∷ local S′.mir valueLocal ∷ local (lone (ShrSlice erased [] u8 .mir)) valueLocal ∷ local (tyInt w64) valueLocal ∷ [];
   body = seq (assign (place 3 []) (rvOpd (copy (place 1 (deref (T′.mir erased) ∷ field 0 ∷ [])))))
       (seq (assign (place 4 []) (rvOpd (copy (place 1 (deref (T′.mir erased) ∷ field 1 ∷ [])))))
       (seq (call callee (copy (place 3 []) ∷ copy (place 4 []) ∷ []) (place 2 []))
@@ -120,7 +119,7 @@ module _ (rule : List ℕ → ℕ → Read) where
     mach = T′.lowered h
 
     abbrev Own : Fml
-    Own = B κ′ .own h (mach ∷ [])
+    Own = Row κ′ .own h (mach ∷ [])
 
     -- the cursor at another place
     abbrev to-place : ℕ → Cursor
@@ -151,7 +150,7 @@ module _ (rule : List ℕ → ℕ → Read) where
     said r = exE 𝓤 _ (λ ws. snd∗ 𝓤 (sem 𝓤 H A (lasts work.ended (κ′, tt) (h .code, (h .at, tt)) ws)) (fact 𝓤 (r ≡ rule (now (h .code)) (h .at))))
 
     -- the slice is kept, and the place's facts are made anew
-    again : (n : ℕ) → n < 2 ^ 64 → ent 𝓤 (sem 𝓤 H A Own) (sem 𝓤 H A (B κ′ .own (to-place n) (T′.lowered (to-place n) ∷ [])))
+    again : (n : ℕ) → n < 2 ^ 64 → ent 𝓤 (sem 𝓤 H A Own) (sem 𝓤 H A (Row κ′ .own (to-place n) (T′.lowered (to-place n) ∷ [])))
     again n fits = qed W (‵ Own ∷ []) ∵ owned ! usize (Is usize) (uint-makes 𝓤 H A W w64) n _ (refl, fits) $ move ! (1 ∷ 0 ∷ []) $ by ! (own-put 𝓤 H A W D L 1 vd n mach)
 
     -- how a read is spelled, and each field's relation
@@ -162,9 +161,9 @@ module _ (rule : List ℕ → ℕ → Read) where
     fields-of r v is = let w = LL.owed S.the-type S′.the-laws r (v ∷ []) is in (w .0, w .1 .0 .1)
 
     exits : (r : Read) → r ≡ rule (now (h .code)) (h .at) → Is G.the-row (r .got) (gotv (r .got) ∷ [])
-        → ent 𝓤 (sep 𝓤 (A .obs γ (B κ′ .coded .code (to-place (r .at)))) (sep 𝓤 (A .bor κ (Body (mem (B κ′)) b o γ)) (sep 𝓤 (A .lft κ q) (sep 𝓤 (A .lft κ′ q′) (emp 𝓤))))) (Post (gotv (r .got)))
+        → ent 𝓤 (sep 𝓤 (A .obs γ (Row κ′ .coded .code (to-place (r .at)))) (sep 𝓤 (A .bor κ (Body (mem (Row κ′)) b o γ)) (sep 𝓤 (A .lft κ q) (sep 𝓤 (A .lft κ′ q′) (emp 𝓤))))) (Post (gotv (r .got)))
     exits r e ig =
-        qed W (‵ (fobs γ (B κ′ .coded .code (to-place (r .at)))) ∷ ‵ (fbor κ (Body (mem (B κ′)) b o γ)) ∷ ‵ (flft κ q) ∷ (‵ (flft κ′ q′) ⊛ ‵ ftrue) ∷ []) ∵
+        qed W (‵ (fobs γ (Row κ′ .coded .code (to-place (r .at)))) ∷ ‵ (fbor κ (Body (mem (Row κ′)) b o γ)) ∷ ‵ (flft κ q) ∷ (‵ (flft κ′ q′) ⊛ ‵ ftrue) ∷ []) ∵
         suffices ! _ (ends-at 𝓤 H A self.ended stayed (readClauses 𝓤) W (((κ, (κ′, tt)), (q, (q′, tt)), bounds, x, at), tt) (gotv (r .got)) (r .got) (to-place (r .at), tt) (tt, tt)) $ says ! (refl, e) $
         move ! (2 ∷ 3 ∷ []) $ join ! $
         frame ! $ feqI ! (List Val) (vptr b o ∷ []) (vptr b o ∷ []) refl $ fjoin3 ! $ nothing ! $ move ! (1 ∷ 0 ∷ []) $ fjoin ! $
@@ -173,12 +172,12 @@ module _ (rule : List ℕ → ℕ → Read) where
     module _ (callee : Name) (C : Calls 𝓤 H) (Λ : Loops 𝓤 H) (fm : FmC 𝓤 H (W .laws) C) (known : Triple 𝓤 (C callee) (Work 𝓤 H A)) where
       walk : ent 𝓤 (onEntry 𝓤 H A self.signature (κ, (κ′, tt)) (q, (q′, tt)) x at) (WpFn 𝓤 H C Λ (body callee) (vptr b o ∷ []) Post)
       walk =
-          qed W ((‵ (flft κ q) ⊛ ‵ (flft κ′ q′) ⊛ ‵ ftrue) ∷ ‵ (owns (MutRef (named 0) κ (B κ′) ∷ []) x at) ∷ []) ∵ enter ! C Λ (body callee) (vptr b o ∷ []) _ $
+          qed W ((‵ (flft κ q) ⊛ ‵ (flft κ′ q′) ⊛ ‵ ftrue) ∷ ‵ (owns (MutRef (named 0) κ (Row κ′) ∷ []) x at) ∷ []) ∵ enter ! C Λ (body callee) (vptr b o ∷ []) _ $
           alloc1 ! (λ l₀. alloc1 ! (λ l₁. alloc1 ! (λ l₂. alloc1 ! (λ l₃. alloc1 ! (λ l₄. alloc0 ! $ params1 ! $ pass1 ! (init ! 6 refl (tt, tt)) $ pass0 ! $
           move ! (11 ∷ []) $ fsplit ! $ fsplit3 ! $ drop ! $ move ! (13 ∷ []) $ split ! $ move ! (2 ∷ 3 ∷ 0 ∷ []) $
-          opens ! tt (B κ′) {h = h} b o (λ vs. spelt ! (B κ′) (Is (B κ′)) (shows 𝓤 H A (B κ′)) (LL.vals D L) (LL.tells D L) fullShare h vs b o $
+          opens ! tt (Row κ′) {h = h} b o (λ vs. spelt ! (Row κ′) (Is (Row κ′)) (shows 𝓤 H A (Row κ′)) (LL.vals D L) (LL.tells D L) fullShare h vs b o $
           use1 W (‵ (fat fullShare (T′.mir erased) b o mach)) (W .laws .raw-at fullShare (T′.mir erased) b o mach) $
-          move ! (1 ∷ []) $ peeks ! (B κ′) (Is (B κ′)) (shows 𝓤 H A (B κ′)) h (mach ∷ []) (λ was. move ! (1 ∷ 0 ∷ []) $
+          move ! (1 ∷ []) $ peeks ! (Row κ′) (Is (Row κ′)) (shows 𝓤 H A (Row κ′)) h (mach ∷ []) (λ was. move ! (1 ∷ 0 ∷ []) $
           -- [the struct's cell; what a Cursor owns; the open borrow; obs; auth; 'a's token; true; _4; …; _3; …; _2; …; _1; …; room for _0; …]
           assigns ! (of-opd ! (load ! (from ! (hop ! (look ! 13 refl) (fld ! refl (stop !)))) (look-in ! 0 (sub ! 0 refl (whole !))))) (from ! (stop !)) (init ! 9 refl (tt, LL.lawful D L 𝓤 H A W .typed h _ was .0 .1 .0)) $
           assigns ! (of-opd ! (load ! (from ! (hop ! (look ! 13 refl) (fld ! refl (stop !)))) (look-in ! 0 (sub ! 1 refl (whole !))))) (from ! (stop !)) (init ! 7 refl (tt, LL.lawful D L 𝓤 H A W .typed h _ was .0 .1 .1 .0)) $
@@ -193,9 +192,9 @@ module _ (rule : List ℕ → ℕ → Read) where
           rewrite ! 12 (λ (v : Val). ‵ (fat fullShare S′.mir l₂ 0 v)) (ap only (LL.tells S.the-type S′.the-laws r (u ∷ []) is)) refl $
           assigns ! (of-opd ! (load ! (from ! (fld ! refl (stop !))) (look-in ! 12 (sub ! 1 refl (whole !))))) (from ! (hop ! (look ! 14 refl) (fld ! refl (stop !)))) (store-in ! 3 (sub ! 1 refl (whole !)) (tt, record { fits = fields-of r u is .1 })) $
           assigns ! (of-opd ! (load ! (from ! (fld ! refl (stop !))) (look-in ! 12 (sub ! 0 refl (whole !))))) (from ! (stop !)) (init ! 16 refl (EL.lawful G.the-type G′.the-laws 𝓤 H A W tt .typed (r .got) _ (fields-of r u is .0) .0)) $
-          drop ! $ move ! (1 ∷ []) $ use1 W (‵ (B κ′ .own (to-place (r .at)) (T′.lowered (to-place (r .at)) ∷ []))) (again (r .at) (fields-of r u is .1)) $
-          move ! (2 ∷ []) $ use1 W (‵ (cellAt fullShare (B κ′ .mir) (T′.lowered (to-place (r .at)) ∷ []) b o)) (W .laws .at-raw fullShare (T′.mir erased) b o (T′.lowered (to-place (r .at)))) $
-          move ! (0 ∷ 1 ∷ 3 ∷ 4 ∷ 5 ∷ []) $ closes ! tt (B κ′) (to-place (r .at)) (T′.lowered (to-place (r .at)) ∷ []) b o $
+          drop ! $ move ! (1 ∷ []) $ use1 W (‵ (Row κ′ .own (to-place (r .at)) (T′.lowered (to-place (r .at)) ∷ []))) (again (r .at) (fields-of r u is .1)) $
+          move ! (2 ∷ []) $ use1 W (‵ (cellAt fullShare (Row κ′ .mir) (T′.lowered (to-place (r .at)) ∷ []) b o)) (W .laws .at-raw fullShare (T′.mir erased) b o (T′.lowered (to-place (r .at)))) $
+          move ! (0 ∷ 1 ∷ 3 ∷ 4 ∷ 5 ∷ []) $ closes ! tt (Row κ′) (to-place (r .at)) (T′.lowered (to-place (r .at)) ∷ []) b o $
           -- [obs; the borrow; its token; 'a's token; true; _4; …]
           returns ! (look ! 13 refl) $ forget ! 5 refl $ forget ! 7 refl $ forget ! 9 refl $ forget ! 11 refl $ forget ! 13 refl $
           move ! (13 ∷ 14 ∷ []) $ free1 ! $ move ! (11 ∷ 12 ∷ []) $ free1 ! $ move ! (9 ∷ 10 ∷ []) $ free1 ! $ move ! (7 ∷ 8 ∷ []) $ free1 ! $ move ! (5 ∷ 6 ∷ []) $ free1 ! $ free0 ! $
@@ -203,9 +202,9 @@ module _ (rule : List ℕ → ℕ → Read) where
 
   module _ {M : Type 1} (𝓤 : URA M) (H : Heap 𝓤) (A : Atoms 𝓤) (W : Given 𝓤 H A) (callee : Name) where
     walks : (C : Calls 𝓤 H) (Λ : Loops 𝓤 H) → FmC 𝓤 H (W .laws) C → Triple 𝓤 (C callee) (Work 𝓤 H A) → Walks 𝓤 H A self.ended stayed (WpFn 𝓤 H C Λ (body callee)) (readClauses 𝓤)
-    walks C Λ fm known = walked 𝓤 H A self.ended stayed (readClauses 𝓤) (WpFn 𝓤 H C Λ (body callee)) (λ κs. (ptr-vals, tt)) (λ κs. (mut-tells (named 0) (κs .0) (B (κs .1 .0)), tt))
+    walks C Λ fm known = walked 𝓤 H A self.ended stayed (readClauses 𝓤) (WpFn 𝓤 H C Λ (body callee)) (λ κs. (ptr-vals, tt)) (λ κs. (mut-tells (named 0) (κs .0) (Row (κs .1 .0)), tt))
         (λ κs qs bounds a _ _. via 𝓤 _ (fst∗ 𝓤 _ (emp 𝓤)) (walk 𝓤 H A W (κs .0) (κs .1 .0) (qs .0) (qs .1 .0) bounds (a .0 .ptr .0) (a .0 .ptr .1) (a .0 .name) (a .0 .now) callee C Λ fm known))
 
     pub read-meets : (𝓣 : Tables 𝓤 H) → Triple 𝓤 (𝓣 .C callee) (Work 𝓤 H A) → Meets 𝓤 H A self.signature (WpFn 𝓤 H (𝓣 .C) (𝓣 .Λ) (body callee)) (closing 𝓤 H A self.ended (readClauses 𝓤))
-    read-meets 𝓣 known = walk-meets 𝓤 H A self.ended stayed W (goes-ref 𝓤 H A W 2 0 tt behind, tt) (readClauses 𝓤) (WpFn 𝓤 H (𝓣 .C) (𝓣 .Λ) (body callee)) (WpFn-mono 𝓤 H (W .laws) 𝓣 (body callee))
+    read-meets 𝓣 known = walk-meets 𝓤 H A self.ended stayed W (goes-ref 𝓤 H A W 2 0 tt referent, tt) (readClauses 𝓤) (WpFn 𝓤 H (𝓣 .C) (𝓣 .Λ) (body callee)) (WpFn-mono 𝓤 H (W .laws) 𝓣 (body callee))
         (walks (𝓣 .C) (𝓣 .Λ) (fmOf 𝓤 H (W .laws) 𝓣) known)

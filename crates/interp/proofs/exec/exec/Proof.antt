@@ -17,17 +17,13 @@ abbrev μ-loop : tie.MeasureT-loop
 μ-loop lent host code consts reads writes kreads kwrites store loader replies map memory₀ stack₀ changes₀ fetched₀ readable₀ writable₀ paid₀ log₀ file₀ run₀ memory stack changes fetched readable writable paid log file run =
     suc (run₀ .meter .limit - run₀ .meter .used) - run .fetches
 
--- ---- places: a turn's head, its step's answer, and the ends of a turn
+-- ---- places: from a turn's head to the start, from its ends to its head or to its step
 
 abbrev start : tie.At-loop Inv-loop μ-loop → tie.Start Inv-loop μ-loop
 start c = c .before .before .before .before .before .before .before .before .before .before .before .before .before .before .before .before .before .before .before .before
 
 abbrev turn : tie.After-step Inv-loop μ-loop → tie.At-loop Inv-loop μ-loop
 turn c = c .before .before .before .before .before .before .before .before .before .before .before .before .before .before .before .before
-
--- the instruction that the turn fetched
-abbrev told : tie.After-step Inv-loop μ-loop → tie.After-f2 Inv-loop μ-loop
-told c = c .before .before .before .before .before .before .before .before .before .before .before .before .before
 
 abbrev refused : tie.After-struct-known Inv-loop μ-loop → tie.At-loop Inv-loop μ-loop
 refused c = c .before .before .before .before .before
@@ -37,9 +33,6 @@ faulted c = c .before .before .before .before .before .before .before .before .b
 
 abbrev halted : tie.Then2 Inv-loop μ-loop → tie.After-step Inv-loop μ-loop
 halted c = c .before .before .before .before .before .before .before .before .before .before .before .before .before .before .before .before .before .before .before .before .before
-
-abbrev going : tie.Else2 Inv-loop μ-loop → tie.After-step Inv-loop μ-loop
-going c = c .before .before .before .before .before .before .before .before .before .before .before .before .before .before .before .before .before .before .before .before .before
 
 -- ---- the needs
 
@@ -122,8 +115,11 @@ same-length-16 c = faulted c .step .kept .1 .1 .1 .1 .1 .1 .1 .1 .1 .1 .1 .1 .1 
 
 returns-2 : tie.Need-returns-2 Inv-loop μ-loop
 returns-2 c =
-    let s = faulted c in
-    loop-faults _ _ _ _ _ _ (turn s .loop .inv) _ _ (rw (told s .f2 .given .1) at (told s .before .before .fetch .ensures)) _ _ (s .step .ensures) (c .if1 .taken) _
+    let stepping = c .before .before .before .before .before .before .before .before .before .before .before .before .before .before .before .before .before .before in
+    let told = stepping .before .before .before .before .before .before .before .before .before .before .before .before .before in
+    let fetching = told .before .before in
+    let turn = fetching .before in
+    loop-faults _ _ _ _ _ _ (turn .loop .inv) _ _ (rw (told .f2 .given .1) at (fetching .fetch .ensures)) _ _ (stepping .step .ensures) (c .if1 .taken) _
 
 put-requires : tie.Need-put-requires Inv-loop μ-loop
 put-requires c κs = search needs
@@ -154,18 +150,33 @@ same-length-24 c = halted c .step .kept .1 .1 .1 .1 .1 .1 .1 .1 .1 .1 .1 .1 .1 .
 
 returns-3 : tie.Need-returns-3 Inv-loop μ-loop
 returns-3 c =
-    let s = halted c in
-    loop-halts _ _ _ _ _ _ (turn s .loop .inv) _ _ (rw (told s .f2 .given .1) at (told s .before .before .fetch .ensures)) _ _ (s .step .ensures) (c .before .before .before .if1 .left) (c .if2 .taken) _ (c .before .before .put .ensures)
+    let putting = c .before .before in
+    let tested = putting .before in
+    let stepping = tested .before .before .before .before .before .before .before .before .before .before .before .before .before .before .before .before .before .before in
+    let told = stepping .before .before .before .before .before .before .before .before .before .before .before .before .before in
+    let fetching = told .before .before in
+    let turn = fetching .before in
+    loop-halts _ _ _ _ _ _ (turn .loop .inv) _ _ (rw (told .f2 .given .1) at (fetching .fetch .ensures)) _ _ (stepping .step .ensures) (tested .if1 .left) (c .if2 .taken) _ (putting .put .ensures)
 
 loop-less : tie.Need-loop-less Inv-loop μ-loop
 loop-less c =
-    let s = going c in
-    loop-shrinks _ _ _ _ _ _ (turn s .loop .inv) _ _ (rw (told s .f2 .given .1) at (told s .before .before .fetch .ensures)) _ _ (s .step .ensures) (start (turn s) .pre) (c .before .before .before .if1 .left) (c .if2 .left)
+    let tested = c .before .before .before in
+    let stepping = tested .before .before .before .before .before .before .before .before .before .before .before .before .before .before .before .before .before .before in
+    let told = stepping .before .before .before .before .before .before .before .before .before .before .before .before .before in
+    let fetching = told .before .before in
+    let turn = fetching .before in
+    let start = turn .before .before .before .before .before .before .before .before .before .before .before .before .before .before .before .before .before .before .before .before in
+    loop-shrinks _ _ _ _ _ _ (turn .loop .inv) _ _ (rw (told .f2 .given .1) at (fetching .fetch .ensures)) _ _ (stepping .step .ensures) (start .pre) (tested .if1 .left) (c .if2 .left)
 
 loop-again : tie.Need-loop-again Inv-loop μ-loop
 loop-again c =
-    let s = going c in
-    loop-goes _ _ _ _ _ _ (turn s .loop .inv) _ _ (rw (told s .f2 .given .1) at (told s .before .before .fetch .ensures)) _ _ (s .step .ensures) (c .before .before .before .if1 .left) (c .if2 .left) _ (c .before .before .put .ensures)
+    let putting = c .before .before in
+    let tested = putting .before in
+    let stepping = tested .before .before .before .before .before .before .before .before .before .before .before .before .before .before .before .before .before .before in
+    let told = stepping .before .before .before .before .before .before .before .before .before .before .before .before .before in
+    let fetching = told .before .before in
+    let turn = fetching .before in
+    loop-goes _ _ _ _ _ _ (turn .loop .inv) _ _ (rw (told .f2 .given .1) at (fetching .fetch .ensures)) _ _ (stepping .step .ensures) (tested .if1 .left) (c .if2 .left) _ (putting .put .ensures)
 
 pub exec-spec : {M : Type 1} → statement M
 exec-spec =

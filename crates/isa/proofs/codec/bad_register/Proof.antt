@@ -19,7 +19,10 @@ first-bad-requires : tie.Need-first-bad-requires
 first-bad-requires c κs = search needs
 
 returns : tie.Need-returns
-returns c = c .first-bad .ensures ∙ ap firstBad (regs-are (c .before .before .before .before .before .args .i) (c .before .before .before .before .parts-of .result) (c .before .before .row .result) (c .before .before .before .before .parts-of .ensures) (c .before .before .row .ensures))
+returns c =
+    let r = c .before .before in
+    let p = r .before .before in
+    c .first-bad .ensures ∙ ap firstBad (regs-are (p .before .args .i) (p .parts-of .result) (r .row .result) (p .parts-of .ensures) (r .row .ensures))
 
 pub bad-register-spec : {M : Type 1} → statement M
 bad-register-spec =

@@ -11,7 +11,7 @@ use Rattle.isa.specs.EncodeLaws.{regs-stand, encoded-bad, encoded-no-roo
 use Rattle.isa.proofs.codec.encode.Statement.{statement}
 use Rattle.isa.proofs.codec.encode.Tie as tie
 
--- an instruction taken apart, whose registers are all below 16
+-- no register of the instruction is 16 or more
 no-bad : (c : tie.After-enum-told) → firstBad (formOf (c .before .before .before .before .args .i) .regs) ≡ NoneBad
 no-bad c = sym (c .before .before .bad-register .ensures) ∙ c .enum-told .given .1
 
@@ -26,7 +26,10 @@ enum-known-b c = search needs
 
 returns : tie.Need-returns
 returns c =
-    let e = encoded-bad (c .before .before .before .before .before .args .i) (now (c .before .before .before .before .before .args .out)) (c .before .b .given .0 .0) (sym (c .before .before .before .bad-register .ensures) ∙ c .before .b .given .1) in
+    let b = c .before in
+    let f = b .before .before in
+    let a = f .before .before .args in
+    let e = encoded-bad (a .i) (now (a .out)) (b .b .given .0 .0) (sym (f .bad-register .ensures) ∙ b .b .given .1) in
     (e .answer, e .output)
 
 enum-told : tie.Need-enum-told

@@ -13,21 +13,26 @@ enum-known-got c = search needs
 
 returns : tie.Need-returns
 returns c =
-    let a = c .before .before .before .before .before .before .args in
-    reg-none (now (a .code)) (a .at) (c .before .before .before .before .read-byte .result) (c .before .before .before .before .read-byte .ensures) (c .before .before .got .given .0 .0) (c .before .before .got .given .1) (c .if1 .taken)
+    let g = c .before .before in
+    let r = g .before .before in
+    let a = r .before .before .args in
+    reg-none (now (a .code)) (a .at) (r .read-byte .result) (r .read-byte .ensures) (g .got .given .0 .0) (g .got .given .1) (c .if1 .taken)
 
 enum-told : tie.Need-enum-told
 enum-told c = search needs
 
 returns-2 : tie.Need-returns-2
 returns-2 c =
-    let a = c .before .before .before .before .before .before .args in
-    reg-is (now (a .code)) (a .at) (c .before .before .before .before .read-byte .result) (c .before .before .before .before .read-byte .ensures) (c .before .before .got .given .0 .0) (c .before .before .got .given .1) (c .if1 .left)
+    let g = c .before .before in
+    let r = g .before .before in
+    let a = r .before .before .args in
+    reg-is (now (a .code)) (a .at) (r .read-byte .result) (r .read-byte .ensures) (g .got .given .0 .0) (g .got .given .1) (c .if1 .left)
 
 returns-3 : tie.Need-returns-3
 returns-3 c =
-    let a = c .before .before .before .before .args in
-    reg-missing (now (a .code)) (a .at) (c .before .before .read-byte .result) (c .before .before .read-byte .ensures) (c .enum-told .given .0 .0) (c .enum-told .given .1)
+    let r = c .before .before in
+    let a = r .before .before .args in
+    reg-missing (now (a .code)) (a .at) (r .read-byte .result) (r .read-byte .ensures) (c .enum-told .given .0 .0) (c .enum-told .given .1)
 
 pub read-reg-spec : {M : Type 1} → statement M
 read-reg-spec =

@@ -12,7 +12,11 @@ is-register-op-requires : tie.Need-is-register-op-requires
 is-register-op-requires c κs = search needs
 
 returns : tie.Need-returns
-returns c = not-register (c .before .before .before .args .i) (c .before .before .before .args .file) (c .before .before .parts-of .result) (c .before .before .parts-of .ensures) (c .before .is-register-op .result) (c .before .is-register-op .ensures) (not-true _ (c .if1 .taken))
+returns c =
+    let o = c .before in
+    let p = o .before in
+    let a = p .before .args in
+    not-register (a .i) (a .file) (p .parts-of .result) (p .parts-of .ensures) (o .is-register-op .result) (o .is-register-op .ensures) (not-true _ (c .if1 .taken))
 
 bad-register-requires : tie.Need-bad-register-requires
 bad-register-requires c κs = search needs
@@ -21,7 +25,14 @@ enum-told : tie.Need-enum-told
 enum-told c = search needs
 
 returns-2 : tie.Need-returns-2
-returns-2 c = register-bad (c .before .before .before .before .before .before .args .i) (c .before .before .before .before .before .before .args .file) (c .before .before .before .before .before .parts-of .result) (c .before .before .before .before .before .parts-of .ensures) (c .before .before .before .before .is-register-op .result) (c .before .before .before .before .is-register-op .ensures) (not-false _ (c .before .before .before .if1 .left)) (c .before .before .bad-register .result) (c .before .before .bad-register .ensures) (c .enum-told .given .0 .0) (c .enum-told .given .1)
+returns-2 c =
+    let b = c .before .before in
+    let t = b .before in
+    let o = t .before in
+    let p = o .before in
+    let a = p .before .args in
+    register-bad (a .i) (a .file) (p .parts-of .result) (p .parts-of .ensures) (o .is-register-op .result) (o .is-register-op .ensures) (not-false _ (t .if1 .left))
+    (b .bad-register .result) (b .bad-register .ensures) (c .enum-told .given .0 .0) (c .enum-told .given .1)
 
 enum-told-2 : tie.Need-enum-told-2
 enum-told-2 c = search needs
@@ -30,7 +41,15 @@ step-requires : tie.Need-step-requires
 step-requires c κs = search needs
 
 returns-3 : tie.Need-returns-3
-returns-3 c = register-step (c .before .before .before .before .before .before .before .args .i) (c .before .before .before .before .before .before .before .args .file) (c .before .before .before .before .before .before .parts-of .result) (c .before .before .before .before .before .before .parts-of .ensures) (c .before .before .before .before .before .is-register-op .result) (c .before .before .before .before .before .is-register-op .ensures) (not-false _ (c .before .before .before .before .if1 .left)) (c .before .before .before .bad-register .result) (c .before .before .before .bad-register .ensures) (c .before .enum-told2 .given .1) (c .step .result) (c .step .ensures)
+returns-3 c =
+    let n = c .before in
+    let b = n .before .before in
+    let t = b .before in
+    let o = t .before in
+    let p = o .before in
+    let a = p .before .args in
+    register-step (a .i) (a .file) (p .parts-of .result) (p .parts-of .ensures) (o .is-register-op .result) (o .is-register-op .ensures) (not-false _ (t .if1 .left))
+    (b .bad-register .result) (b .bad-register .ensures) (n .enum-told2 .given .1) (c .step .result) (c .step .ensures)
 
 pub bench-by-value-spec : {M : Type 1} → statement M
 bench-by-value-spec =

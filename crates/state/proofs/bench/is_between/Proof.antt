@@ -14,10 +14,18 @@ byte-requires-3 : tie.Need-byte-requires-3
 byte-requires-3 c κs = search needs
 
 returns : tie.Need-returns
-returns c = from-low (c .before .before .before .before .args .lo) (c .before .before .before .before .args .hi) (c .before .before .before .before .args .op) (c .before .before .byte2 .result) (c .before .before .before .byte .result) (c .before .before .byte2 .ensures) (c .before .before .before .byte .ensures) (c .byte3 .result) (c .byte3 .ensures) (c .before .if1 .taken)
+returns c =
+    let l = c .before .before in
+    let b = l .before in
+    let a = b .before .args in
+    from-low (a .lo) (a .hi) (a .op) (l .byte2 .result) (b .byte .result) (l .byte2 .ensures) (b .byte .ensures) (c .byte3 .result) (c .byte3 .ensures) (c .before .if1 .taken)
 
 returns-2 : tie.Need-returns-2
-returns-2 c = below-low (c .before .before .before .args .lo) (c .before .before .before .args .hi) (c .before .before .before .args .op) (c .before .byte2 .result) (c .before .before .byte .result) (c .before .byte2 .ensures) (c .before .before .byte .ensures) (c .if1 .left)
+returns-2 c =
+    let l = c .before in
+    let b = l .before in
+    let a = b .before .args in
+    below-low (a .lo) (a .hi) (a .op) (l .byte2 .result) (b .byte .result) (l .byte2 .ensures) (b .byte .ensures) (c .if1 .left)
 
 pub is-between-spec : {M : Type 1} → statement M
 is-between-spec =

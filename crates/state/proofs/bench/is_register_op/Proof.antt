@@ -10,13 +10,15 @@ is-between-requires : tie.Need-is-between-requires
 is-between-requires c κs = search needs
 
 returns : tie.Need-returns
-returns c = first-range (c .before .before .args .op) true (c .before .is-between .result) (c .before .is-between .ensures) (c .if1 .taken)
+returns c = let f = c .before in first-range (f .before .args .op) true (f .is-between .result) (f .is-between .ensures) (c .if1 .taken)
 
 is-between-requires-2 : tie.Need-is-between-requires-2
 is-between-requires-2 c κs = search needs
 
 returns-2 : tie.Need-returns-2
-returns-2 c = c .is-between2 .ensures ∙ first-range (c .before .before .before .args .op) false (c .before .before .is-between .result) (c .before .before .is-between .ensures) (c .before .if1 .left)
+returns-2 c =
+    let f = c .before .before in
+    c .is-between2 .ensures ∙ first-range (f .before .args .op) false (f .is-between .result) (f .is-between .ensures) (c .before .if1 .left)
 
 pub is-register-op-spec : {M : Type 1} → statement M
 is-register-op-spec =

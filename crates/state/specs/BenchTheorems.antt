@@ -1,0 +1,21 @@
+-- What is refused on the bench, whatever its number, leaves the file as it was. Assumes nothing.
+use mathlib.Core.Path.{refl}
+use mathlib.Core.Bool.{Bool, true, false}
+use Rattle.words.specs.Choice.{pick}
+use Rattle.isa.specs.declared.instr.Instr.{Instr}
+use Rattle.isa.specs.declared.codec.FirstBad.{FirstBad}
+use Rattle.isa.specs.declared.codec.FirstBad.the-variants.{Bad, NoneBad}
+use Rattle.isa.specs.Forms.{formOf}
+use Rattle.isa.specs.Codec.{firstBad}
+use Rattle.state.specs.declared.regs.RegFile.{RegFile}
+use Rattle.state.specs.Regs.{refused, stepOf}
+use Rattle.state.specs.RegsTheorems.{Keeps, step-keeps}
+use Rattle.state.specs.Bench.{registerOp, unlessBad, benchOf}
+
+pub bench-keeps : (i : Instr) (f : RegFile) → Keeps f (benchOf i f)
+bench-keeps i f = go (registerOp (formOf i .op)) (firstBad (formOf i .regs))
+  where
+    go : (t : Bool) (b : FirstBad) → Keeps f (pick t (unlessBad b f (stepOf i f)) (refused f 50))
+    go true (Bad r) = λ n. refl
+    go true NoneBad = step-keeps i f
+    go false b = λ n. refl

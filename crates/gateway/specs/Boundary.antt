@@ -1,6 +1,6 @@
 -- What a C function returns and leaves in its answer (document 01, Numbers returned).
 use mathlib.Core.List.{List, _++_}
-use Prim.Native.Nat.{ℕ, _%_, _^_}
+use Prim.Native.Nat.{ℕ, _≤_, _<_}
 use lib.Dec.{ltb}
 use lib.ListN.{length, drop, getD}
 use Rattle.words.specs.Choice.{pick}
@@ -17,9 +17,9 @@ pub record Answered : Type 0 where
 abbrev pub answered : ℕ → List ℕ → Answered
 answered n l = record { number = n; answer = l }
 
--- the words in the answer and their first, the number, in four bytes; 48 and no word where they do not fit
+-- the words in the answer, and the first of them, the number; 48 and no word where they do not fit
 unfoldable pub answeredOf : (words answer : List ℕ) → Answered
-answeredOf ws l = pick (ltb (length l) (length ws)) (answered 48 l) (answered (getD ws 0 0 % 2 ^ 32) (wordsInto ws l))
+answeredOf ws l = pick (ltb (length l) (length ws)) (answered 48 l) (answered (getD ws 0 0) (wordsInto ws l))
 
 -- the same of a call that lends more than its answer
 pub record Told (A : Type 0) : Type 0 where
@@ -32,3 +32,7 @@ told n l b = record { given = answered n l; lent = b }
 -- where the words do not fit, nothing that is lent is touched
 unfoldable pub toldOf : {A : Type 0} → (before after : A) → (words answer : List ℕ) → Told A
 toldOf before after ws l = record { given = answeredOf ws l; lent = pick (ltb (length l) (length ws)) before after }
+
+-- the first word is one of document 01's numbers, which end at 50
+abbrev pub Numbered : List ℕ → Type 0
+Numbered ws = (0 < length ws) × (getD ws 0 0 ≤ 50)

@@ -1,7 +1,7 @@
 -- Words copied to the front of a buffer, and what follows for an answer. Assumes nothing.
-use mathlib.Core.Path.{_≡_, refl, sym, ap, _∙_}
+use mathlib.Core.Path.{_≡_, ap, _∙_}
 use mathlib.Core.List.{List}
-use Prim.Native.Nat.{ℕ, _+_, _%_, _^_, _≤_, _<_}
+use Prim.Native.Nat.{ℕ, _+_, _≤_, _<_}
 use native.Mathlib.Omega.{arith}
 use lib.ListN.{length, getD, set}
 use lib.Seq.{paste, take-all}
@@ -28,7 +28,7 @@ unfolding answeredOf
 too-long ws l h = rw (lt-ltb (length l) (length ws) h)
 
 -- words that do
-pub fitting : (ws l u : List ℕ) → length ws ≤ length l → u ≡ wordsInto ws l → answered (getD ws 0 0 % 2 ^ 32) u ≡ answeredOf ws l
+pub fitting : (ws l u : List ℕ) → length ws ≤ length l → u ≡ wordsInto ws l → answered (getD ws 0 0) u ≡ answeredOf ws l
 unfolding answeredOf
 fitting ws l u h e = rw (le-ltb (length l) (length ws) h, e)
 

@@ -1,4 +1,8 @@
 pub mod Boundary
-pub mod BoundaryLaws
 pub mod Words
 pub mod Gateway
+pub mod BoundaryLaws
+pub mod FaultNumbers
+pub mod StepNumbers
+pub mod CallNumbers
+pub mod WordNumbers

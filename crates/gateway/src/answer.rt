@@ -1,8 +1,8 @@
 // The words of an answer, written to the front of a lent slice.
 ghost use mathlib.Core.Path.{_≡_};
-ghost use Prim.Native.Nat.{_≤_, _<_};
+ghost use Prim.Native.Nat.{_≤_};
 ghost use lib.ListN.{length};
-ghost use Rattle.gateway.specs.Boundary.{wordsInto, answered, answeredOf};
+ghost use Rattle.gateway.specs.Boundary.{wordsInto, answered, answeredOf, Numbered};
 
 // Copies words to the front of t.
 fn copy_words(t: &mut [u64], words: &[u64])
@@ -18,12 +18,12 @@ fn copy_words(t: &mut [u64], words: &[u64])
 
 // Writes an answer's words where they fit, and gives the first of them; else 48.
 pub fn put(t: &mut [u64], words: &[u64]) -> u32
-    requires { ⌜ 0 < length (now words) ⌝ }
+    requires { ⌜ Numbered (now words) ⌝ }
     ensures { λ r. ⌜ answered r (now (t .exit)) ≡ answeredOf (now (words .entry)) (now (t .entry)) ⌝ }
 {
     if t.len() < words.len() {
         return 48;
     }
     copy_words(t, words);
-    (words[0] % 0x1_0000_0000) as u32
+    words[0] as u32
 }

@@ -3,6 +3,7 @@ use mathlib.Core.Path.{_∙_, ap}
 use borrow.Author.Needs.{needs}
 use Rattle.interp.specs.Call.{Called}
 use Rattle.gateway.specs.BoundaryLaws.{untouched, passed}
+use Rattle.gateway.specs.WordNumbers.{call-numbered}
 use Rattle.gateway.specs.Words.{answerWords}
 use Rattle.gateway.specs.Gateway.{gatewayOf}
 use Rattle.gateway.proofs.calls.qvm_for_genesis.Statement.{statement}
@@ -22,6 +23,9 @@ returns-2 c =
     let e = called .for-genesis .ensures in
     passed _ _ _ _ _ _ _ _ (tested .if1 .left) (ap (λ (x : Called). x .lent) e) (words .answer-words .ensures ∙ ap (λ (x : Called). answerWords (x .answer)) e) (written .put .ensures)
 
+put-requires : tie.Need-put-requires
+put-requires c κs = rw (c .before .before .answer-words .ensures) (call-numbered _ _ _ (c .before .before .before .before .before .before .before .before .before .before .before .before .before .before .before .before .before .before .before .before .before .for-genesis .ensures))
+
 pub qvm-for-genesis-spec : {M : Type 1} → statement M
 qvm-for-genesis-spec =
     tie.close
@@ -30,7 +34,7 @@ qvm-for-genesis-spec =
     (λ c κs. search needs)
     (λ c κs. search needs)
     (λ c. search needs)
-    (λ c κs. search needs)
+    put-requires
     (λ c. search needs)
     (λ c. search needs)
     (λ c. search needs)

@@ -2,6 +2,7 @@
 use mathlib.Core.Path.{_∙_, ap}
 use borrow.Author.Needs.{needs}
 use Rattle.gateway.specs.BoundaryLaws.{untouched, passed}
+use Rattle.gateway.specs.WordNumbers.{written-numbered}
 use Rattle.gateway.specs.Words.{writtenWords}
 use Rattle.gateway.specs.Gateway.{writerOf}
 use Rattle.gateway.proofs.containers.qvm_canonical_bytes.Statement.{statement}
@@ -20,6 +21,9 @@ returns-2 c =
     let tested = written .before .before in
     passed _ _ _ _ _ _ _ _ (tested .if1 .left) (written .write .ensures .1) (words .written-words .ensures ∙ ap writtenWords (written .write .ensures .0)) (answered .put .ensures)
 
+put-requires : tie.Need-put-requires
+put-requires c κs = rw (c .before .before .written-words .ensures) (written-numbered (c .before .before .before .before .before .write .result))
+
 pub qvm-canonical-bytes-spec : {M : Type 1} → statement M
 qvm-canonical-bytes-spec =
     tie.close
@@ -28,7 +32,7 @@ qvm-canonical-bytes-spec =
     (λ c κs. search needs)
     (λ c κs. search needs)
     (λ c. search needs)
-    (λ c κs. search needs)
+    put-requires
     (λ c. search needs)
     (λ c. search needs)
     returns-2)

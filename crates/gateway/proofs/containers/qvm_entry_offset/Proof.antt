@@ -4,6 +4,7 @@ use mathlib.Core.List.{List}
 use Prim.Native.Nat.{ℕ}
 use borrow.Author.Needs.{needs}
 use Rattle.gateway.specs.Boundary.{answeredOf}
+use Rattle.gateway.specs.WordNumbers.{offset-numbered}
 use Rattle.gateway.specs.Words.{offsetWords}
 use Rattle.gateway.proofs.containers.qvm_entry_offset.Statement.{statement}
 use Rattle.gateway.proofs.containers.qvm_entry_offset.Tie as tie
@@ -16,6 +17,9 @@ returns c =
     let start = found .before .before .before in
     written .put .ensures ∙ ap (λ (ws : List ℕ). answeredOf ws (start .args .answer .now)) (words .offset-words .ensures ∙ ap offsetWords (found .entry-offset .ensures))
 
+put-requires : tie.Need-put-requires
+put-requires c κs = rw (c .before .before .offset-words .ensures) (offset-numbered (c .before .before .before .entry-offset .result))
+
 pub qvm-entry-offset-spec : {M : Type 1} → statement M
 qvm-entry-offset-spec =
     tie.close
@@ -23,6 +27,6 @@ qvm-entry-offset-spec =
     (λ c κs. search needs)
     (λ c κs. search needs)
     (λ c. search needs)
-    (λ c κs. search needs)
+    put-requires
     (λ c. search needs)
     returns)

@@ -2,6 +2,7 @@
 use mathlib.Core.Path.{_∙_, ap}
 use borrow.Author.Needs.{needs}
 use Rattle.gateway.specs.BoundaryLaws.{untouched, passed}
+use Rattle.gateway.specs.WordNumbers.{list-numbered}
 use Rattle.gateway.specs.Words.{listWords}
 use Rattle.gateway.specs.Gateway.{changesOf}
 use Rattle.gateway.proofs.settled.qvm_change_list.Statement.{statement}
@@ -20,6 +21,9 @@ returns-2 c =
     let tested = listed .before .before in
     passed _ _ _ _ _ _ _ _ (tested .if1 .left) (listed .change-list .ensures .1) (words .list-words .ensures ∙ ap listWords (listed .change-list .ensures .0)) (written .put .ensures)
 
+put-requires : tie.Need-put-requires
+put-requires c κs = rw (c .before .before .list-words .ensures) (list-numbered (c .before .before .before .before .before .change-list .result))
+
 pub qvm-change-list-spec : {M : Type 1} → statement M
 qvm-change-list-spec =
     tie.close
@@ -28,7 +32,7 @@ qvm-change-list-spec =
     (λ c κs. search needs)
     (λ c κs. search needs)
     (λ c. search needs)
-    (λ c κs. search needs)
+    put-requires
     (λ c. search needs)
     (λ c. search needs)
     returns-2)

@@ -1,13 +1,13 @@
 //! Random calls, kept as parts that can be made smaller: a program, tables by rows, damage by bytes.
 
 use crate::judge::{Call, BUFFERS, FIXED};
-use crate::programs::{assembled, offset, raw, Writer, OUTPUTS, PREIMAGES, SLOTS};
+use crate::programs::{assembled, offset, raw, strays, Writer, OUTPUTS, PREIMAGES, SLOTS};
 use crate::random::Source;
 use qvm::container::{selector, Container, Entry, StateAccess, GENESIS_SIGNATURE};
 use qvm::isa::Instr;
 use qvm::numbers::FAULTS;
 
-const AMPLE: u64 = 10_000_000;
+const AMPLE: u64 = 5_000_000;
 /// Bytes of the six tables and the log: no two alike, so that one in another's place shows.
 const ROOMS: [usize; 6] = [640, 680, 512, 544, 576, 8192];
 const WHOLE_LOG: usize = 1 << 20;
@@ -123,7 +123,9 @@ fn reply(source: &mut Source, digests: &[[u8; 32]]) -> Vec<u8> {
         return row;
     }
     if source.once_in(4) {
-        row[1] = source.below(16) as u8;
+        // seldom a register that counts a loop, which then runs until its meter is out
+        let registers = if source.once_in(50) { 16 } else { 13 };
+        row[1] = source.below(registers) as u8;
         row[9] = source.below(5) as u8;
     }
     if !source.once_in(5) {
@@ -174,7 +176,11 @@ pub fn random(source: &mut Source) -> Plan {
     let keys: Vec<[u8; 32]> = (0..SLOTS).map(slot).chain(digests).collect();
     let sort = source.below(200);
     let code = program(source, &access, sort);
-    let wild = (5..=30).contains(&sort);
+    let limit = match sort {
+        5..=30 => 2000 + source.below(3000) as u64,
+        _ if strays(&code) => source.below(200_000) as u64,
+        _ => AMPLE,
+    };
     let [changes, fetched, reads, writes, fresh, log] = ROOMS;
     let log = if sort == 1 { WHOLE_LOG } else { log };
     let mut plan = Plan {
@@ -183,7 +189,7 @@ pub fn random(source: &mut Source) -> Plan {
         entries: vec![Entry { selector: *b"abcd", offset: 0, access: access.clone() }],
         genesis: false,
         selector: *b"abcd",
-        limit: if wild { 2000 + source.below(3000) as u64 } else { AMPLE },
+        limit,
         present: !source.once_in(3),
         store: rows(source, &keys),
         loader: rows(source, &keys),
@@ -206,7 +212,7 @@ fn twist(source: &mut Source, plan: &mut Plan) {
         plan.sizes[which] = source.pick(&[0, 13, 31, 32, 39, 40, 64, 79, 80, 120]);
     }
     if source.once_in(8) {
-        plan.limit = source.below(700_000) as u64;
+        plan.limit = plan.limit.min(source.below(700_000) as u64);
     }
     match source.below(400) {
         0..=3 => plan.sizes[source.below(3)] += source.pick(&[1, usize::MAX]),

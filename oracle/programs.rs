@@ -37,6 +37,11 @@ fn target(instr: &mut Instr) -> Option<&mut u32> {
     }
 }
 
+/// Whether a jump goes to a byte's place: such a program may run until its meter is out.
+pub fn strays(code: &[Instr]) -> bool {
+    code.iter().copied().any(|mut instr| target(&mut instr).is_some_and(|place| *place >= RAW))
+}
+
 /// Where a place in the list stands in the code.
 pub fn offset(code: &[Instr], place: u32) -> u32 {
     if place >= RAW {

@@ -1,0 +1,4 @@
+// What settle prints of a call, line by line.
+pub mod hex;
+pub mod lines;
+pub mod names;

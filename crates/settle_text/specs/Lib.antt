@@ -5,3 +5,5 @@ pub mod Names
 pub mod NameLaws
 pub mod Lines
 pub mod LineLaws
+pub mod Effects
+pub mod EffectLaws

@@ -2,3 +2,4 @@
 pub mod hex;
 pub mod lines;
 pub mod names;
+pub mod posted;

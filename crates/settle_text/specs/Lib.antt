@@ -7,3 +7,6 @@ pub mod Lines
 pub mod LineLaws
 pub mod Effects
 pub mod EffectLaws
+pub mod CallFile
+pub mod Number
+pub mod InputLaws

@@ -3,14 +3,9 @@
 set -eu
 cd "$(dirname "$0")/.."
 out=target/oracle
-mkdir -p "$out" crates/codec crates/arith crates/verdicts crates/stores crates/key_steps crates/runs
+mkdir -p crates/codec crates/arith crates/verdicts crates/stores crates/key_steps crates/runs
 
-build() {
-    rustc --edition 2021 -O -C panic=abort -L "$out" --out-dir "$out" "$@"
-}
-build --crate-type rlib --crate-name qtv_crypto oracle/qtv_crypto.rs
-build --crate-type rlib --crate-name qvm --extern qtv_crypto --cfg 'feature="unchecked-programs"' oracle/qvm.rs
-build --crate-name oracle --extern qvm oracle/main.rs
+sh oracle/build.sh
 
 vectors() {
     python3 oracle/vectors.py "$1" > "$2"
@@ -22,3 +17,4 @@ vectors verdict crates/verdicts/stdin crates/verdicts/stdout
 vectors stores crates/stores/stdin crates/stores/stdout
 vectors key_steps crates/key_steps/stdin crates/key_steps/stdout
 vectors runs crates/runs/stdin crates/runs/stdout
+"$out/oracle" demo demo/container.bin demo/store.bin demo/call.bin > crates/settle/stdout

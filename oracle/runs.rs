@@ -28,20 +28,20 @@ const LOG: usize = 8;
 /// What every lent byte is before a call.
 const FILL: u8 = 0xA5;
 
-struct Call<'a> {
-    genesis: bool,
-    selector: [u8; 4],
-    limit: u64,
-    present: bool,
-    sizes: [usize; BUFFERS],
-    container: &'a [u8],
-    store: &'a [u8],
-    loader: &'a [u8],
-    replies: Vec<u8>,
-    preload: &'a [u8],
+pub struct Call<'a> {
+    pub genesis: bool,
+    pub selector: [u8; 4],
+    pub limit: u64,
+    pub present: bool,
+    pub sizes: [usize; BUFFERS],
+    pub container: &'a [u8],
+    pub store: &'a [u8],
+    pub loader: &'a [u8],
+    pub replies: Vec<u8>,
+    pub preload: &'a [u8],
 }
 
-enum End {
+pub enum End {
     /// Not opened.
     Refused(Refusal),
     /// A fault and the fetches up to it.
@@ -143,7 +143,7 @@ fn given(call: &Call) -> Result<Container, u64> {
     Ok(container)
 }
 
-fn run(call: &Call) -> End {
+pub fn run(call: &Call) -> End {
     let container = match given(call) {
         Ok(container) => container,
         Err(number) => return End::Refused((number, 0)),

@@ -17,14 +17,13 @@ pub struct Asked {
     pub call: usize,
     pub loader: usize,
     pub out: usize,
-    pub run_genesis: bool,
     pub genesis: u64,
     pub ml_signed: u64,
     pub slh_signed: u64,
     pub waiting: u64,
 }
 
-// What an argument is: a file, an option by itself or one that takes the next argument, or none of these.
+// What an argument is: a file, an option that takes the next argument, or neither.
 const FILE: u64 = 0;
 
 const GENESIS_NEXT: u64 = 1;
@@ -35,9 +34,7 @@ const SLH_NEXT: u64 = 3;
 
 const OUT_NEXT: u64 = 4;
 
-const RUN_GENESIS: u64 = 5;
-
-const UNKNOWN: u64 = 6;
+const UNKNOWN: u64 = 5;
 
 fn nothing() -> Asked {
     Asked {
@@ -48,7 +45,6 @@ fn nothing() -> Asked {
         call: 0,
         loader: 0,
         out: 0,
-        run_genesis: false,
         genesis: GENESIS,
         ml_signed: ML_SIGNED,
         slh_signed: SLH_SIGNED,
@@ -56,16 +52,19 @@ fn nothing() -> Asked {
     }
 }
 
-fn same(a: &[u8], b: &[u8]) -> bool {
-    if a.len() != b.len() {
+// Whether a word is the name.
+fn is(word: &[u8], name: &[u8]) -> bool {
+    let n = name.len();
+    if word.len() != n {
         return false;
     }
-    let mut i = 0;
-    while i < a.len() {
-        if a[i] != b[i] {
+    let mut at = 0;
+    while at < n {
+        let w = word[at];
+        if w != name[at] {
             return false;
         }
-        i += 1;
+        at += 1;
     }
     true
 }
@@ -74,23 +73,20 @@ fn kind(word: &[u8]) -> u64 {
     if word.len() < 2 {
         return FILE;
     }
-    if !same(&word[..2], b"--") {
+    if !is(&word[..2], b"--") {
         return FILE;
     }
-    if same(word, b"--genesis") {
+    if is(word, b"--genesis") {
         return GENESIS_NEXT;
     }
-    if same(word, b"--ml") {
+    if is(word, b"--ml") {
         return ML_NEXT;
     }
-    if same(word, b"--slh") {
+    if is(word, b"--slh") {
         return SLH_NEXT;
     }
-    if same(word, b"--out") {
+    if is(word, b"--out") {
         return OUT_NEXT;
-    }
-    if same(word, b"--run-genesis") {
-        return RUN_GENESIS;
     }
     UNKNOWN
 }
@@ -113,7 +109,9 @@ fn file(asked: Asked, i: usize, word: &[u8]) -> Asked {
         3 => a.loader = i,
         _ => return refused(asked, word, b"one file too many"),
     }
-    a.files = before + 1;
+    if before < 4 {
+        a.files = before + 1;
+    }
     a
 }
 
@@ -122,11 +120,7 @@ fn option(asked: Asked, kind: u64, word: &[u8]) -> Asked {
         return refused(asked, word, b"no such option");
     }
     let mut a = asked;
-    if kind == RUN_GENESIS {
-        a.run_genesis = true;
-    } else {
-        a.waiting = kind;
-    }
+    a.waiting = kind;
     a
 }
 
@@ -193,7 +187,11 @@ pub fn read() -> Asked {
         return a;
     }
     if a.files < 3 {
-        return refused(a, b"usage", b"CONTAINER STORE CALL [LOADER] [--out FILE] [--genesis N] [--ml N] [--slh N] [--run-genesis]");
+        return refused(
+            a,
+            b"usage",
+            b"CONTAINER STORE CALL [LOADER] [--out FILE] [--genesis N] [--ml N] [--slh N]",
+        );
     }
     if a.waiting != FILE {
         return refused(a, b"usage", b"the last option lacks its value");

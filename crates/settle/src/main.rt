@@ -7,7 +7,6 @@ mod said;
 use args::Asked;
 use changes::ChangeList;
 use files::Loaded;
-use interp::answer::Answer;
 use interp::call::Host;
 use settle_text::call_file::Head;
 use settle_text::call_file::Parted;
@@ -18,67 +17,6 @@ fn host(a: Asked) -> Host {
         ml_signed: a.ml_signed,
         slh_signed: a.slh_signed,
     }
-}
-
-fn called(
-    a: Asked,
-    h: Head,
-    container: &[u8],
-    store: &[u8],
-    loader: &[u8],
-    replies: &[u8],
-    preload: &[u8],
-    memory: &mut [u8],
-    stack: &mut [u64],
-    starts: &mut [u8],
-    changes: &mut [u8],
-    fetched: &mut [u8],
-    reads: &mut [u8],
-    writes: &mut [u8],
-    fresh: &mut [u8],
-    log: &mut [u8],
-) -> Answer {
-    if a.run_genesis {
-        return interp::call::for_genesis(
-            container,
-            h.limit,
-            host(a),
-            store,
-            a.loader != 0,
-            loader,
-            replies,
-            preload,
-            memory,
-            stack,
-            starts,
-            changes,
-            fetched,
-            reads,
-            writes,
-            fresh,
-            log,
-        );
-    }
-    interp::call::for_entry(
-        container,
-        (h.selector % 4294967296) as u32,
-        h.limit,
-        host(a),
-        store,
-        a.loader != 0,
-        loader,
-        replies,
-        preload,
-        memory,
-        stack,
-        starts,
-        changes,
-        fetched,
-        reads,
-        writes,
-        fresh,
-        log,
-    )
 }
 
 // Writes the new store to the file that is asked for.
@@ -116,11 +54,13 @@ fn run(
     let mut reads = [0u8; 131072];
     let mut writes = [0u8; 131072];
     let mut fresh = [0u8; 131072];
-    let answer = called(
-        a,
-        h,
+    let answer = interp::call::for_entry(
         container,
+        (h.selector % 4294967296) as u32,
+        h.limit,
+        host(a),
         store,
+        a.loader != 0,
         loader,
         replies,
         preload,
@@ -155,16 +95,7 @@ fn with_log(
     preload: &[u8],
 ) {
     let mut log = [0u8; 1048576];
-    run(
-        a,
-        h,
-        container,
-        store,
-        loader,
-        replies,
-        preload,
-        &mut log,
-    );
+    run(a, h, container, store, loader, replies, preload, &mut log);
 }
 
 fn settle(a: Asked, container: &[u8], store: &[u8], call: &[u8], loader: &[u8]) {

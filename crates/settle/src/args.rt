@@ -100,17 +100,17 @@ fn refused(asked: Asked, word: &[u8], why: &[u8]) -> Asked {
 
 // A file, by how many stand before it.
 fn file(asked: Asked, i: usize, word: &[u8]) -> Asked {
+    let before = asked.files;
+    if before > 3 {
+        return refused(asked, word, b"one file too many");
+    }
     let mut a = asked;
-    let before = a.files;
+    a.files = before + 1;
     match before {
         0 => a.container = i,
         1 => a.store = i,
         2 => a.call = i,
-        3 => a.loader = i,
-        _ => return refused(asked, word, b"one file too many"),
-    }
-    if before < 4 {
-        a.files = before + 1;
+        _ => a.loader = i,
     }
     a
 }

@@ -10,7 +10,7 @@ fn ended(fd: i32, path: &[u8]) -> bool {
     let mut more = [0u8; 1];
     let got = libc::read(fd, &mut more);
     if got < 0 {
-        os::fail(path);
+        crate::said::failed(path);
         return false;
     }
     if got > 0 {
@@ -35,7 +35,7 @@ pub fn load(i: usize, t: &mut [u8]) -> Loaded {
     let path = &buffer[..n];
     let fd = os::open_read(path);
     if fd < 0 {
-        os::fail(path);
+        crate::said::failed(path);
         return Loaded::Failed;
     }
     let r = read_from(fd, path, t);
@@ -58,12 +58,12 @@ pub fn save(i: usize, s: &[u8]) -> bool {
     let path = &buffer[..n];
     let fd = os::open_overwrite(path);
     if fd < 0 {
-        os::fail(path);
+        crate::said::failed(path);
         return false;
     }
     let written = io::write_all(fd, s);
     if !written {
-        os::fail(path);
+        crate::said::failed(path);
     }
     libc::close(fd);
     written

@@ -27,6 +27,7 @@ fn save(a: Asked, store: &[u8], changes: &[u8], count: usize) {
         said::complain(b"new store", b"not written");
         return;
     };
+    // So many have room.
     if n > 8192 {
         return;
     }

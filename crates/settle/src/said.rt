@@ -10,6 +10,12 @@ pub fn complain(what: &[u8], why: &[u8]) {
     io::write_all(STDERR_FILENO, b"\n");
 }
 
+// The same for what the system refused, with its own word for why.
+pub fn failed(what: &[u8]) {
+    io::write_all(STDERR_FILENO, b"settle: ");
+    os::fail(what);
+}
+
 // The first n bytes and the line's end.
 pub fn line(s: &[u8], n: usize) {
     print::front(s, n);

@@ -7,6 +7,7 @@ mod said;
 use args::Asked;
 use changes::ChangeList;
 use files::Loaded;
+use interp::answer::Answer;
 use interp::call::Host;
 use settle_text::call_file::Head;
 use settle_text::call_file::Parted;
@@ -36,15 +37,27 @@ fn save(a: Asked, store: &[u8], changes: &[u8], count: usize) {
     }
 }
 
-// With the buffers that a call is lent; a log of this size takes all that a run may post.
+// What a call left: lines, and the new store if it halted and one is asked for.
+fn tell(a: Asked, limit: u64, answer: Answer, store: &[u8], changes: &[u8], log: &[u8]) {
+    report::answer(answer, limit);
+    if answer.number != 0 {
+        return;
+    }
+    report::changes(changes, answer.changes as usize);
+    report::effects(log, answer.log as usize);
+    if a.out != 0 {
+        save(a, store, changes, answer.changes as usize);
+    }
+}
+
+// With the buffers that a call is lent.
 fn run(
     a: Asked,
     h: Head,
     container: &[u8],
     store: &[u8],
     loader: &[u8],
-    replies: &[u8],
-    preload: &[u8],
+    call: &[u8],
     log: &mut [u8],
 ) {
     let mut memory = [0u8; 65536];
@@ -63,8 +76,8 @@ fn run(
         store,
         a.loader != 0,
         loader,
-        replies,
-        preload,
+        files::part(call, settle_text::call_file::HEAD, h.preload),
+        files::part(call, h.preload, call.len()),
         &mut memory,
         &mut stack,
         &mut starts,
@@ -75,28 +88,13 @@ fn run(
         &mut fresh,
         log,
     );
-    report::answer(answer, h.limit);
-    if answer.number != 0 {
-        return;
-    }
-    report::changes(&changes, answer.changes as usize);
-    report::effects(log, answer.log as usize);
-    if a.out != 0 {
-        save(a, store, &changes, answer.changes as usize);
-    }
+    tell(a, h.limit, answer, store, &changes, log);
 }
 
-fn with_log(
-    a: Asked,
-    h: Head,
-    container: &[u8],
-    store: &[u8],
-    loader: &[u8],
-    replies: &[u8],
-    preload: &[u8],
-) {
+// A log of this size takes all that a run may post.
+fn with_log(a: Asked, h: Head, container: &[u8], store: &[u8], loader: &[u8], call: &[u8]) {
     let mut log = [0u8; 1048576];
-    run(a, h, container, store, loader, replies, preload, &mut log);
+    run(a, h, container, store, loader, call, &mut log);
 }
 
 fn settle(a: Asked, container: &[u8], store: &[u8], call: &[u8], loader: &[u8]) {
@@ -104,15 +102,7 @@ fn settle(a: Asked, container: &[u8], store: &[u8], call: &[u8], loader: &[u8]) 
     match p {
         Parted::Short => said::complain(b"CALL", b"ends before its counts say"),
         Parted::Long => said::complain(b"CALL", b"has bytes after the preload"),
-        Parted::Call(h) => with_log(
-            a,
-            h,
-            container,
-            store,
-            loader,
-            files::part(call, settle_text::call_file::HEAD, h.preload),
-            files::part(call, h.preload, call.len()),
-        ),
+        Parted::Call(h) => with_log(a, h, container, store, loader, call),
     }
 }
 

@@ -12,7 +12,7 @@ use Rattle.words.specs.Choice.{pick}
 use Rattle.words.specs.Laid.{Laid}
 use Rattle.words.specs.LaidLaws.{laid-then}
 use Rattle.text.specs.Decimal.{fieldOf}
-use Rattle.text.specs.LaidLaws.{length-field, field-room}
+use Rattle.text.specs.LaidLaws.{field-room}
 use Rattle.settle_text.specs.Ascii.{ascii}
 use Rattle.settle_text.specs.Hex.{hexOf}
 use Rattle.settle_text.specs.HexLaws.{length-hex}

@@ -1,16 +1,12 @@
 -- `merge::merge` meets its contract: refused in order, else the rows are merged. Assumes nothing.
-use mathlib.Core.Path.{_≡_, refl, sym, ap, _∙_}
+use mathlib.Core.Path.{refl, sym, ap, _∙_}
 use mathlib.Core.Bool.{true, false}
-use mathlib.Core.Option.{some}
 use native.Mathlib.Omega.{arith}
 use denote.Ref.{now}
 use borrow.Author.Needs.{needs}
 use borrow.Author.Tests.{not-true, not-false}
-use Rattle.tables.specs.Rows.{rows}
-use Rattle.tables.specs.Checked.{checkedOf}
 use Rattle.tables.specs.CheckTheorems.{checks-exactly, whole-table}
 use Rattle.tables.specs.declared.check.Checked.{Checked}
-use Rattle.tables.specs.declared.check.Checked.the-variants.{Whole}
 use Rattle.changes.specs.ChangeList.{rowsOf}
 use Rattle.changes.specs.AnswerLaws.{stored-past, stored-by}
 use Rattle.changes.specs.MergeLaws.{merges-none, merges-bad, merges-as}

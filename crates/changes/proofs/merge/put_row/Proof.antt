@@ -1,10 +1,6 @@
 -- `merge::put_row` meets its contract: there is room, so the row is in. Assumes nothing.
-use mathlib.Core.Path.{_≡_, sym, _∙_}
-use native.Mathlib.Omega.{arith}
 use denote.Ref.{now}
-use lib.ListN.{length}
 use borrow.Author.Needs.{needs}
-use Rattle.tables.specs.Table.{Table}
 use Rattle.changes.specs.MergeLaws.{put-counted, put-fits}
 use Rattle.changes.proofs.merge.put_row.Statement.{statement}
 use Rattle.changes.proofs.merge.put_row.Tie as tie

@@ -1,6 +1,6 @@
 -- `report::effects` is safe and ends: every place is within the log. Assumes nothing.
-use mathlib.Core.Path.{_≡_, sym, _∙_}
-use Prim.Native.Nat.{ℕ, _≤_}
+use mathlib.Core.Path.{_≡_, _∙_}
+use Prim.Native.Nat.{ℕ}
 use native.Mathlib.Omega.{arith}
 use lib.ListN.{length, length-replicate}
 use borrow.Author.Needs.{needs}

@@ -1,5 +1,4 @@
 -- `lines::fault_start` meets its contract: the word goes by the fetches. Assumes nothing.
-use native.Mathlib.Omega.{arith}
 use borrow.Author.Needs.{needs}
 use borrow.Author.Tests.{eq-eqb, ne-eqb}
 use Rattle.settle_text.specs.Ascii.{ascii}

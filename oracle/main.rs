@@ -1,8 +1,10 @@
-//! The QVM Rust as judge: `oracle codec|arith|bench|verdict|stores|key_steps|runs`, records on standard input, a line each on standard output.
+//! The QVM Rust as judge: `oracle codec|arith|bench|verdict|stores|key_steps|runs`, records on standard input, a line each on standard output;
+//! `oracle demo CONTAINER STORE CALL`, what settle prints of these files.
 
 mod arith;
 mod bench;
 mod codec;
+mod demo;
 mod input;
 mod judge;
 mod key_steps;
@@ -15,7 +17,12 @@ use input::Input;
 use std::io::{self, Read, Write};
 
 fn main() -> io::Result<()> {
-    let name = std::env::args().nth(1).unwrap_or_default();
+    let words: Vec<String> = std::env::args().skip(1).collect();
+    let name = words.first().cloned().unwrap_or_default();
+    if name == "demo" {
+        print!("{}", demo::report(&words[1..])?);
+        return Ok(());
+    }
     let line: fn(&mut Input) -> Option<String> = match name.as_str() {
         "codec" => codec::line,
         "arith" => arith::line,
@@ -25,7 +32,7 @@ fn main() -> io::Result<()> {
         "key_steps" => key_steps::line,
         "runs" => runs::line,
         _ => {
-            eprintln!("usage: oracle codec|arith|bench|verdict|stores|key_steps|runs");
+            eprintln!("usage: oracle codec|arith|bench|verdict|stores|key_steps|runs, or oracle demo CONTAINER STORE CALL");
             std::process::exit(2);
         }
     };

@@ -45,7 +45,7 @@ module _ (t : List ℕ) (n i : ℕ) (l : i < n) (h : n * 40 ≤ length t) where
       sym (rowOf-append 40 (part t i) (drop 40 d) (omega arith) (omega (arith, part-length)))
       ∙ ap (λ (a : List ℕ). rowOf 40 (a ++ drop 40 d)) (part-is t i) ∙ ap (rowOf 40) (take-append-drop 40 d)
 
-  next-rows : rows 40 (n - i) (drop (i * 40) t) ≡ rowOf 40 (part t i) ∷ rows 40 (n - (i + 1)) (drop ((i + 1) * 40) t)
+  pub next-rows : rows 40 (n - i) (drop (i * 40) t) ≡ rowOf 40 (part t i) ∷ rows 40 (n - (i + 1)) (drop ((i + 1) * 40) t)
   unfolding rows
   next-rows =
       let m : n - i ≡ suc (n - (i + 1)) = omega arith in

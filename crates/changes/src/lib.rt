@@ -1,4 +1,6 @@
-// The change list: what a halted run changed, for reconciliation.
+// The change list: what a halted run changed, for reconciliation; and the new store.
+pub mod merge;
+
 ghost use mathlib.Core.Path.{_≡_};
 ghost use mathlib.Core.Option.{some};
 ghost use Prim.Native.Nat.{_*_, _≤_};

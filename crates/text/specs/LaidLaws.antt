@@ -26,6 +26,10 @@ pub length-field : (name : List ℕ) (n : ℕ) → length (fieldOf name n) ≤ l
 unfolding fieldOf
 length-field name n = omega (arith, length-append name (decimalOf n), length-decimal n)
 
+-- where a field may end
+pub field-room : (d u name : List ℕ) (at n r : ℕ) → Laid d at (fieldOf name n) u r → r ≤ at + length name + 20
+field-room d u name at n r x = omega (arith, x .end, length-field name n)
+
 -- a name and then its number are the field
 pub laid-field : (d u v name : List ℕ) (at r s n : ℕ) → at + length name + 20 ≤ length d → Laid d at name u r → Laid u r (decimalOf n) v s → Laid d at (fieldOf name n) v s
 unfolding fieldOf

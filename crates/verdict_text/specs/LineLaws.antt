@@ -20,10 +20,6 @@ use Rattle.container.specs.declared.verify.Verified.the-variants.{Valid, Unread
 use Rattle.container.specs.declared.reader.Layout.{Layout}
 use Rattle.verdict_text.specs.Line.{newline, okLine, noLine, lineFor, lineOf}
 
--- after a field that ends by 75 there is room for another and for the end of the line
-pub field-room : (d u name : List ℕ) (at n r : ℕ) → Laid d at (fieldOf name n) u r → r ≤ at + length name + 20
-field-room d u name at n r x = omega (arith, x .end, length-field name n)
-
 pub no-laid : (d u v w : List ℕ) (a : Answer) (r s t : ℕ) → 96 ≤ length d → Laid d 0 (fieldOf (110 ∷ 111 ∷ 32 ∷ []) (a .number)) u r →
     Laid u r (fieldOf (32 ∷ []) (a .argument)) v s → Laid v s newline w t → Laid d 0 (noLine a) w t
 unfolding noLine

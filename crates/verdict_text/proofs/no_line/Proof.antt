@@ -4,7 +4,8 @@ use native.Mathlib.Omega.{arith}
 use denote.Ref.{now}
 use borrow.Author.Needs.{needs}
 use Rattle.isa.specs.Answers.{answer}
-use Rattle.verdict_text.specs.LineLaws.{field-room, no-laid}
+use Rattle.text.specs.LaidLaws.{field-room}
+use Rattle.verdict_text.specs.LineLaws.{no-laid}
 use Rattle.verdict_text.proofs.no_line.Statement.{statement}
 use Rattle.verdict_text.proofs.no_line.Tie as tie
 

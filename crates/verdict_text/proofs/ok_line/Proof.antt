@@ -3,7 +3,8 @@ use Prim.Native.Nat.{_≤_}
 use native.Mathlib.Omega.{arith}
 use denote.Ref.{now}
 use borrow.Author.Needs.{needs}
-use Rattle.verdict_text.specs.LineLaws.{field-room, ok-laid}
+use Rattle.text.specs.LaidLaws.{field-room}
+use Rattle.verdict_text.specs.LineLaws.{ok-laid}
 use Rattle.verdict_text.proofs.ok_line.Statement.{statement}
 use Rattle.verdict_text.proofs.ok_line.Tie as tie
 

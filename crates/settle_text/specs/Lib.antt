@@ -1,0 +1,12 @@
+pub mod Ascii
+pub mod Hex
+pub mod HexLaws
+pub mod Names
+pub mod NameLaws
+pub mod Lines
+pub mod LineLaws
+pub mod Effects
+pub mod EffectLaws
+pub mod CallFile
+pub mod Number
+pub mod InputLaws

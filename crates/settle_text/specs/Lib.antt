@@ -10,3 +10,4 @@ pub mod EffectLaws
 pub mod CallFile
 pub mod Number
 pub mod InputLaws
+pub mod Cases

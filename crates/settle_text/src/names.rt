@@ -4,9 +4,6 @@ ghost use lib.ListN.{length};
 ghost use Rattle.words.specs.Laid.{Laid};
 ghost use Rattle.settle_text.specs.Names.{addedName, laterName, nameOf};
 
-// A name takes no more.
-pub const NAME: usize = 24;
-
 fn added_name(out: &mut [u8], at: usize, number: u64) -> usize
     requires { ⌜ at + 24 ≤ length (now out) ⌝ }
     ensures { λ r. ⌜ Laid (now (out .entry)) at (addedName number) (now (out .exit)) r ⌝ }

@@ -18,12 +18,19 @@ loop-holds c = putting-start _ _ _ _ (c .before .before .pre .0)
 
 put-row-requires : tie.Need-put-row-requires Inv-loop μ-loop
 put-row-requires c κs =
-    let v = c .before .before .before .loop .inv in
-    (v .table, part-length (now (c .before .before .before .before .before .before .args .changes)) (c .before .before .before .before .before .before .args .n) (c .before .before .before .loop .i) (c .before .before .loop-test .taken) (c .before .before .before .before .before .before .pre .1), omega (arith, v .most, v .size, c .before .before .before .before .before .before .pre .2, c .before .before .loop-test .taken))
+    let at-loop-test = c .before .before in
+    let at-loop = at-loop-test .before in
+    let start = at-loop .before .before .before in
+    let v = at-loop .loop .inv in
+    (v .table, part-length (now (start .args .changes)) (start .args .n) (at-loop .loop .i) (at-loop-test .loop-test .taken) (start .pre .1), omega (arith, v .most, v .size, start .pre .2, at-loop-test .loop-test .taken))
 
 loop-again : tie.Need-loop-again Inv-loop μ-loop
 loop-again c =
-    putting-turn _ _ _ _ _ _ (c .before .before .before .before .before .before .loop .k) _ (c .before .before .before .before .before .before .loop .i) (c .before .before .before .before .before .before .loop .inv) (c .before .before .before .before .before .loop-test .taken) (c .before .before .before .before .before .before .before .before .before .pre .1) (c .before .before .put-row .kept .0) (c .before .before .put-row .ensures)
+    let at-put-row = c .before .before in
+    let at-loop-test = at-put-row .before .before .before in
+    let at-loop = at-loop-test .before in
+    let start = at-loop .before .before .before in
+    putting-turn _ _ _ _ _ _ (at-loop .loop .k) _ (at-loop .loop .i) (at-loop .loop .inv) (at-loop-test .loop-test .taken) (start .pre .1) (at-put-row .put-row .kept .0) (at-put-row .put-row .ensures)
 
 returns : tie.Need-returns Inv-loop μ-loop
 returns c = putting-end _ _ _ _ _ (c .before .loop .k) (c .before .loop .i) (c .loop-test .left) (c .before .loop .inv)

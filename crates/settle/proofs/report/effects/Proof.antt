@@ -14,13 +14,21 @@ abbrev μ-loop : tie.MeasureT-loop
 μ-loop log end n out₀ newer₀ out newer = newer
 
 without-requires : tie.Need-without-requires Inv-loop μ-loop
-without-requires c κs = omega (arith, c .before .before .before .before .before .if1 .left)
+without-requires c κs =
+    let at-if1 = c .before .before .before .before .before in
+    omega (arith, at-if1 .if1 .left)
 
 effect-line-requires : tie.Need-effect-line-requires Inv-loop μ-loop
-effect-line-requires c κs = (omega (arith, c .before .if2 .left), omega (arith, c .before .before .without .ensures .0, c .before .before .before .before .before .before .before .before .if1 .left))
+effect-line-requires c κs =
+    let at-without = c .before .before in
+    let at-if1 = at-without .before .before .before .before .before .before in
+    (omega (arith, c .before .if2 .left), omega (arith, at-without .without .ensures .0, at-if1 .if1 .left))
 
 loop-again : tie.Need-loop-again Inv-loop μ-loop
-loop-again c = c .before .before .before .effect-line .kept .0 ∙ c .before .before .before .before .before .before .before .before .loop .inv
+loop-again c =
+    let at-effect-line = c .before .before .before in
+    let at-loop = at-effect-line .before .before .before .before .before in
+    at-effect-line .effect-line .kept .0 ∙ at-loop .loop .inv
 
 pub effects-spec : {M : Type 1} → statement M
 effects-spec =

@@ -18,23 +18,41 @@ add-preload c = omega (arith, c .read .ensures, four-below (now (c .before .befo
 
 add-end : tie.Need-add-end
 add-end c =
+    let at-if1 = c .before .before in
+    let at-shared-slice-known = at-if1 .before in
+    let start = at-shared-slice-known .before in
     omega (
       arith,
       c .before .read .ensures,
       c .read2 .ensures,
-      four-below (now (c .before .before .before .before .args .s)) 12 (omega (arith, c .before .before .if1 .left)) (λ k. c .before .before .before .shared-slice-known .given k .fits),
-      four-below (now (c .before .before .before .before .args .s)) 16 (omega (arith, c .before .before .if1 .left)) (λ k. c .before .before .before .shared-slice-known .given k .fits),
+      four-below (now (start .args .s)) 12 (omega (arith, at-if1 .if1 .left)) (λ k. at-shared-slice-known .shared-slice-known .given k .fits),
+      four-below (now (start .args .s)) 16 (omega (arith, at-if1 .if1 .left)) (λ k. at-shared-slice-known .shared-slice-known .given k .fits),
     )
 
 returns-2 : tie.Need-returns-2
-returns-2 c = cut-short (now (c .before .before .before .before .before .args .s)) (c .before .before .before .if1 .left) (c .before .before .read .result) (c .before .read2 .result) _ (c .before .before .read .ensures) (c .before .read2 .ensures) refl (c .if2 .taken)
+returns-2 c =
+    let at-read = c .before .before in
+    let at-if1 = at-read .before in
+    let start = at-if1 .before .before in
+    cut-short (now (start .args .s)) (at-if1 .if1 .left) (at-read .read .result) (c .before .read2 .result) _ (at-read .read .ensures) (c .before .read2 .ensures) refl (c .if2 .taken)
 
 returns-3 : tie.Need-returns-3
-returns-3 c = cut-long (now (c .before .before .before .before .before .before .args .s)) (c .before .before .before .before .if1 .left) (c .before .before .before .read .result) (c .before .before .read2 .result) _ (c .before .before .before .read .ensures) (c .before .before .read2 .ensures) refl (c .if3 .taken)
+returns-3 c =
+    let at-read2 = c .before .before in
+    let at-read = at-read2 .before in
+    let at-if1 = at-read .before in
+    let start = at-if1 .before .before in
+    cut-long (now (start .args .s)) (at-if1 .if1 .left) (at-read .read .result) (at-read2 .read2 .result) _ (at-read .read .ensures) (at-read2 .read2 .ensures) refl (c .if3 .taken)
 
 returns-4 : tie.Need-returns-4
 returns-4 c =
-    cut-whole (now (c .before .before .before .before .before .before .before .before .args .s)) (c .before .before .before .before .before .before .if1 .left) (c .before .before .before .before .before .read .result) (c .before .before .before .before .read2 .result) _ (c .before .before .before .before .before .read .ensures) (c .before .before .before .before .read2 .ensures) refl (omega (arith, c .before .before .before .if2 .left, c .before .before .if3 .left))
+    let at-if3 = c .before .before in
+    let at-if2 = at-if3 .before in
+    let at-read2 = at-if2 .before in
+    let at-read = at-read2 .before in
+    let at-if1 = at-read .before in
+    let start = at-if1 .before .before in
+    cut-whole (now (start .args .s)) (at-if1 .if1 .left) (at-read .read .result) (at-read2 .read2 .result) _ (at-read .read .ensures) (at-read2 .read2 .ensures) refl (omega (arith, at-if2 .if2 .left, at-if3 .if3 .left))
     (c .before .read3 .result) (c .read4 .result) (c .before .read3 .ensures) (c .read4 .ensures)
 
 pub cut-spec : {M : Type 1} → statement M

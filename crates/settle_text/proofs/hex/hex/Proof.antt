@@ -24,7 +24,8 @@ digit-requires c κs = omega (arith, c .before .before .before .shared-slice-kno
 
 loop-again : tie.Need-loop-again Inv-loop μ-loop
 loop-again c =
-    let l = c .before .before .before .before .loop in (
+    let at-loop = c .before .before .before .before in
+    let l = at-loop .loop in (
       omega arith,
       hex-turn _ _ _ _ (l .i) _ _ (omega arith) (omega arith) (c .before .digit .ensures) (c .digit2 .ensures) (l .inv .1),
       simp length-set (l .inv .2),

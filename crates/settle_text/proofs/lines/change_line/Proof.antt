@@ -12,20 +12,30 @@ use Rattle.settle_text.proofs.lines.change_line.Statement.{statement}
 use Rattle.settle_text.proofs.lines.change_line.Tie as tie
 
 slice-aggregate-hex : tie.Need-slice-aggregate-hex
-slice-aggregate-hex c = sym (length-take-le 32 (c .before .before .before .before .args .row .now) (omega (arith, c .before .before .before .before .pre .1)))
+slice-aggregate-hex c =
+    let start = c .before .before .before .before in
+    sym (length-take-le 32 (start .args .row .now) (omega (arith, start .pre .1)))
 
 hex-requires : tie.Need-hex-requires
-hex-requires c κs = omega (arith, length-take-le 32 (c .before .before .before .before .args .row .now) (omega (arith, c .before .before .before .before .pre .1)), c .before .before .before .before .pre .0)
+hex-requires c κs =
+    let start = c .before .before .before .before in
+    omega (arith, length-take-le 32 (start .args .row .now) (omega (arith, start .pre .1)), start .pre .0)
 
 field-requires : tie.Need-field-requires
 field-requires c κs =
-    omega (arith, c .before .before .before .before .before .hex .ensures .end, length-hex (take 32 (c .before .before .before .before .before .before .before .before .before .before .args .row .now)), length-take-le 32 (c .before .before .before .before .before .before .before .before .before .before .args .row .now) (omega (arith, c .before .before .before .before .before .before .before .before .before .before .pre .1)), c .before .before .before .before .before .hex .kept .0, c .before .before .before .before .before .before .before .before .before .before .pre .0)
+    let at-hex = c .before .before .before .before .before in
+    let start = at-hex .before .before .before .before .before in
+    omega (arith, at-hex .hex .ensures .end, length-hex (take 32 (start .args .row .now)), length-take-le 32 (start .args .row .now) (omega (arith, start .pre .1)), at-hex .hex .kept .0, start .pre .0)
 
 returns : tie.Need-returns
 unfolding ascii
 returns c =
-    change-laid (now (c .before .before .before .before .before .before .before .before .before .before .before .before .before .args .out)) _ _ (c .before .before .before .before .before .before .before .before .before .before .before .before .before .args .row .now) (c .before .before .before .read .result) (c .before .before .before .before .before .before .before .before .hex .result) (c .before .before .field .result) (c .before .before .before .before .before .before .before .before .before .before .before .before .before .pre .0) (c .before .before .before .before .before .before .before .before .before .before .before .before .before .pre .1) (c .before .before .before .read .ensures)
-    (c .before .before .before .before .before .before .before .before .hex .ensures) (c .before .before .field .ensures)
+    let at-field = c .before .before in
+    let at-read = at-field .before in
+    let at-hex = at-read .before .before .before .before .before in
+    let start = at-hex .before .before .before .before .before in
+    change-laid (now (start .args .out)) _ _ (start .args .row .now) (at-read .read .result) (at-hex .hex .result) (at-field .field .result) (start .pre .0) (start .pre .1) (at-read .read .ensures)
+    (at-hex .hex .ensures) (at-field .field .ensures)
 
 pub change-line-spec : {M : Type 1} → statement M
 change-line-spec =

@@ -8,11 +8,17 @@ use Rattle.settle_text.proofs.lines.end_line.Tie as tie
 
 returns : tie.Need-returns
 unfolding endLine ascii
-returns c = rw (eq-eqb _ 0 (c .before .before .before .before .before .if1 .taken)) (c .before .before .put .ensures)
+returns c =
+    let at-put = c .before .before in
+    let at-if1 = at-put .before .before .before in
+    rw (eq-eqb _ 0 (at-if1 .if1 .taken)) (at-put .put .ensures)
 
 returns-2 : tie.Need-returns-2
 unfolding endLine
-returns-2 c = rw (ne-eqb _ 0 (c .before .before .before .before .if1 .left)) (c .before .before .fault-line .ensures)
+returns-2 c =
+    let at-fault-line = c .before .before in
+    let at-if1 = at-fault-line .before .before in
+    rw (ne-eqb _ 0 (at-if1 .if1 .left)) (at-fault-line .fault-line .ensures)
 
 pub end-line-spec : {M : Type 1} → statement M
 end-line-spec =

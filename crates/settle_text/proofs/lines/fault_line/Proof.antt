@@ -10,32 +10,47 @@ use Rattle.settle_text.proofs.lines.fault_line.Statement.{statement}
 use Rattle.settle_text.proofs.lines.fault_line.Tie as tie
 
 put-requires : tie.Need-put-requires
-put-requires c κs = omega (arith, field-room _ _ _ _ _ _ (c .before .before .before .before .fault-start .ensures), length-word (c .before .before .before .before .before .before .before .args .fetches), c .before .before .before .before .fault-start .kept .0, c .before .before .before .before .before .before .before .pre)
+put-requires c κs =
+    let at-fault-start = c .before .before .before .before in
+    let start = at-fault-start .before .before .before in
+    omega (arith, field-room _ _ _ _ _ _ (at-fault-start .fault-start .ensures), length-word (start .args .fetches), at-fault-start .fault-start .kept .0, start .pre)
 
 name-requires : tie.Need-name-requires
 name-requires c κs =
-    omega (arith, field-room _ _ _ _ _ _ (c .before .before .before .before .before .before .before .before .fault-start .ensures), length-word (c .before .before .before .before .before .before .before .before .before .before .before .args .fetches), c .before .before .before .put .ensures .end, c .before .before .before .before .before .before .before .before .fault-start .kept .0, c .before .before .before .put .kept .0, c .before .before .before .before .before .before .before .before .before .before .before .pre)
+    let at-put = c .before .before .before in
+    let at-fault-start = at-put .before .before .before .before .before in
+    let start = at-fault-start .before .before .before in
+    omega (arith, field-room _ _ _ _ _ _ (at-fault-start .fault-start .ensures), length-word (start .args .fetches), at-put .put .ensures .end, at-fault-start .fault-start .kept .0, at-put .put .kept .0, start .pre)
 
 field-requires : tie.Need-field-requires
 field-requires c κs =
+    let at-name = c .before .before .before .before in
+    let at-put = at-name .before .before .before .before in
+    let at-fault-start = at-put .before .before .before .before .before in
+    let start = at-fault-start .before .before .before in
     omega (
       arith,
-      field-room _ _ _ _ _ _ (c .before .before .before .before .before .before .before .before .before .before .before .before .before .fault-start .ensures),
-      length-word (c .before .before .before .before .before .before .before .before .before .before .before .before .before .before .before .before .args .fetches),
-      c .before .before .before .before .before .before .before .before .put .ensures .end,
-      c .before .before .before .before .name .ensures .end,
-      length-name (c .before .before .before .before .before .before .before .before .before .before .before .before .before .before .before .before .args .number),
-      c .before .before .before .before .before .before .before .before .before .before .before .before .before .fault-start .kept .0,
-      c .before .before .before .before .before .before .before .before .put .kept .0,
-      c .before .before .before .before .name .kept .0,
-      c .before .before .before .before .before .before .before .before .before .before .before .before .before .before .before .before .pre,
+      field-room _ _ _ _ _ _ (at-fault-start .fault-start .ensures),
+      length-word (start .args .fetches),
+      at-put .put .ensures .end,
+      at-name .name .ensures .end,
+      length-name (start .args .number),
+      at-fault-start .fault-start .kept .0,
+      at-put .put .kept .0,
+      at-name .name .kept .0,
+      start .pre,
     )
 
 returns : tie.Need-returns
 unfolding ascii
 returns c =
-    fault-laid (now (c .before .before .before .before .before .before .before .before .before .before .before .before .before .before .before .before .before .before .before .args .out)) _ _ _ _ (c .before .before .before .before .before .before .before .before .before .before .before .before .before .before .before .before .before .before .before .args .number) (c .before .before .before .before .before .before .before .before .before .before .before .before .before .before .before .before .before .before .before .args .argument) (c .before .before .before .before .before .before .before .before .before .before .before .before .before .before .before .before .before .before .before .args .fetches) (c .before .before .before .before .before .before .before .before .before .before .before .before .before .before .before .before .fault-start .result) (c .before .before .before .before .before .before .before .before .before .before .before .put .result) (c .before .before .before .before .before .before .before .name .result) (c .before .before .field .result)
-    (c .before .before .before .before .before .before .before .before .before .before .before .before .before .before .before .before .before .before .before .pre) (c .before .before .before .before .before .before .before .before .before .before .before .before .before .before .before .before .fault-start .ensures) (c .before .before .before .before .before .before .before .before .before .before .before .put .ensures) (c .before .before .before .before .before .before .before .name .ensures) (c .before .before .field .ensures)
+    let at-field = c .before .before in
+    let at-name = at-field .before .before .before .before .before in
+    let at-put = at-name .before .before .before .before in
+    let at-fault-start = at-put .before .before .before .before .before in
+    let start = at-fault-start .before .before .before in
+    fault-laid (now (start .args .out)) _ _ _ _ (start .args .number) (start .args .argument) (start .args .fetches) (at-fault-start .fault-start .result) (at-put .put .result) (at-name .name .result) (at-field .field .result)
+    (start .pre) (at-fault-start .fault-start .ensures) (at-put .put .ensures) (at-name .name .ensures) (at-field .field .ensures)
 
 pub fault-line-spec : {M : Type 1} → statement M
 fault-line-spec =

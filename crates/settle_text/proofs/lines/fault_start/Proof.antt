@@ -8,11 +8,17 @@ use Rattle.settle_text.proofs.lines.fault_start.Tie as tie
 
 returns : tie.Need-returns
 unfolding endWord ascii
-returns c = rw (eq-eqb _ 0 (c .before .before .before .before .before .if1 .taken)) (c .before .before .field .ensures)
+returns c =
+    let at-field = c .before .before in
+    let at-if1 = at-field .before .before .before in
+    rw (eq-eqb _ 0 (at-if1 .if1 .taken)) (at-field .field .ensures)
 
 returns-2 : tie.Need-returns-2
 unfolding endWord ascii
-returns-2 c = rw (ne-eqb _ 0 (c .before .before .before .before .before .if1 .left)) (c .before .before .field2 .ensures)
+returns-2 c =
+    let at-field2 = c .before .before in
+    let at-if1 = at-field2 .before .before .before in
+    rw (ne-eqb _ 0 (at-if1 .if1 .left)) (at-field2 .field2 .ensures)
 
 pub fault-start-spec : {M : Type 1} → statement M
 fault-start-spec =

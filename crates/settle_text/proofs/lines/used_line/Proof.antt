@@ -9,11 +9,18 @@ use Rattle.settle_text.proofs.lines.used_line.Statement.{statement}
 use Rattle.settle_text.proofs.lines.used_line.Tie as tie
 
 field-requires-2 : tie.Need-field-requires-2
-field-requires-2 c κs = omega (arith, field-room _ _ _ _ _ _ (c .before .before .before .before .field .ensures), c .before .before .before .before .field .kept .0, c .before .before .before .before .before .before .before .before .pre)
+field-requires-2 c κs =
+    let at-field = c .before .before .before .before in
+    let start = at-field .before .before .before .before in
+    omega (arith, field-room _ _ _ _ _ _ (at-field .field .ensures), at-field .field .kept .0, start .pre)
 
 returns : tie.Need-returns
 unfolding ascii
-returns c = used-laid (now (c .before .before .before .before .before .before .before .before .before .before .before .args .out)) _ _ (c .before .before .before .before .before .before .before .before .before .before .before .args .used) (c .before .before .before .before .before .before .before .before .before .before .before .args .limit) (c .before .before .before .before .before .before .before .field .result) (c .before .before .field2 .result) (c .before .before .before .before .before .before .before .before .before .before .before .pre) (c .before .before .before .before .before .before .before .field .ensures) (c .before .before .field2 .ensures)
+returns c =
+    let at-field2 = c .before .before in
+    let at-field = at-field2 .before .before .before .before .before in
+    let start = at-field .before .before .before .before in
+    used-laid (now (start .args .out)) _ _ (start .args .used) (start .args .limit) (at-field .field .result) (at-field2 .field2 .result) (start .pre) (at-field .field .ensures) (at-field2 .field2 .ensures)
 
 pub used-line-spec : {M : Type 1} → statement M
 used-line-spec =

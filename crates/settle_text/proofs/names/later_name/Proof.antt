@@ -10,7 +10,11 @@ use Rattle.settle_text.proofs.names.later_name.Tie as tie
 -- the last arm
 other : tie.Need-returns-10
 unfolding laterName
-other c = laid-as (none-of _ verifyNames (c .before .before .before .before .before .before .args .number) _ (c .before .before .before .before .match .rest) .0) (c .before .before .added-name .ensures)
+other c =
+    let at-added-name = c .before .before in
+    let at-match = at-added-name .before .before in
+    let start = at-match .before .before in
+    laid-as (none-of _ verifyNames (start .args .number) _ (at-match .match .rest) .0) (at-added-name .added-name .ensures)
 
 pub later-name-spec : {M : Type 1} → statement M
 unfolding ascii nameIn laterName

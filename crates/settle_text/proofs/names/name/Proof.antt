@@ -10,7 +10,11 @@ use Rattle.settle_text.proofs.names.name.Tie as tie
 -- the last arm
 other : tie.Need-returns-18
 unfolding nameOf
-other c = laid-as (none-of _ runNames (c .before .before .before .before .before .before .args .number) _ (c .before .before .before .before .match .rest) .0) (c .before .before .later-name .ensures)
+other c =
+    let at-later-name = c .before .before in
+    let at-match = at-later-name .before .before in
+    let start = at-match .before .before in
+    laid-as (none-of _ runNames (start .args .number) _ (at-match .match .rest) .0) (at-later-name .later-name .ensures)
 
 pub name-spec : {M : Type 1} → statement M
 unfolding ascii nameIn nameOf

@@ -24,14 +24,22 @@ loop-holds c = (omega arith, parsed-start (c .before .before .args .s .now) (ome
 
 returns-2 : tie.Need-returns-2 Inv-loop μ-loop
 returns-2 c =
-    parsed-bad (c .before .before .before .before .before .before .before .before .args .s .now) (c .before .before .before .before .before .loop .i + 1) (parsed-turn (c .before .before .before .before .before .before .before .before .args .s .now) (c .before .before .before .before .before .loop .n) (c .before .before .before .before .before .loop .i) _ (omega arith) (sym (c .enum-told .given .1) ∙ c .before .before .with-digit .ensures) (c .before .before .before .before .before .loop .inv .1))
+    let at-with-digit = c .before .before in
+    let at-loop = at-with-digit .before .before .before in
+    let start = at-loop .before .before .before in
+    parsed-bad (start .args .s .now) (at-loop .loop .i + 1) (parsed-turn (start .args .s .now) (at-loop .loop .n) (at-loop .loop .i) _ (omega arith) (sym (c .enum-told .given .1) ∙ at-with-digit .with-digit .ensures) (at-loop .loop .inv .1))
 
 loop-again : tie.Need-loop-again Inv-loop μ-loop
 loop-again c =
-    (omega arith, parsed-turn (c .before .before .before .before .before .before .before .before .before .args .s .now) (c .before .before .before .before .before .before .loop .n) (c .before .before .before .before .before .before .loop .i) _ (omega arith) (sym (c .before .p .given .1) ∙ c .before .before .before .with-digit .ensures) (c .before .before .before .before .before .before .loop .inv .1))
+    let at-with-digit = c .before .before .before in
+    let at-loop = at-with-digit .before .before .before in
+    let start = at-loop .before .before .before in
+    (omega arith, parsed-turn (start .args .s .now) (at-loop .loop .n) (at-loop .loop .i) _ (omega arith) (sym (c .before .p .given .1) ∙ at-with-digit .with-digit .ensures) (at-loop .loop .inv .1))
 
 returns-3 : tie.Need-returns-3 Inv-loop μ-loop
-returns-3 c = parsed-end (c .before .before .before .before .args .s .now) (c .before .loop .n) (c .before .loop .i) (omega arith) (c .before .loop .inv .1)
+returns-3 c =
+    let start = c .before .before .before .before in
+    parsed-end (start .args .s .now) (c .before .loop .n) (c .before .loop .i) (omega arith) (c .before .loop .inv .1)
 
 pub parse-spec : {M : Type 1} → statement M
 parse-spec =

@@ -10,7 +10,11 @@ use Rattle.settle_text.proofs.posted.selector.Tie as tie
 
 returns : tie.Need-returns
 unfolding selectorOf
-returns c = laid-as (ap hexOf (sym (four-written (c .before .before .before .before .before .before .before .before .before .args .word) (c .before .before .before .before .before .before .write .ensures)))) (c .before .before .hex .ensures)
+returns c =
+    let at-hex = c .before .before in
+    let at-write = at-hex .before .before .before .before in
+    let start = at-write .before .before .before in
+    laid-as (ap hexOf (sym (four-written (start .args .word) (at-write .write .ensures)))) (at-hex .hex .ensures)
 
 pub selector-spec : {M : Type 1} → statement M
 selector-spec =

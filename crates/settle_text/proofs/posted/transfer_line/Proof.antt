@@ -9,16 +9,27 @@ use Rattle.settle_text.proofs.posted.transfer_line.Statement.{statement
 use Rattle.settle_text.proofs.posted.transfer_line.Tie as tie
 
 put-requires : tie.Need-put-requires
-put-requires c κs = omega (arith, field-room _ _ _ _ _ _ (c .before .before .before .before .field .ensures), c .before .before .before .before .field .kept .0, c .before .before .before .before .before .before .before .before .before .pre)
+put-requires c κs =
+    let at-field = c .before .before .before .before in
+    let start = at-field .before .before .before .before .before in
+    omega (arith, field-room _ _ _ _ _ _ (at-field .field .ensures), at-field .field .kept .0, start .pre)
 
 hex-requires : tie.Need-hex-requires
-hex-requires c κs = omega (arith, field-room _ _ _ _ _ _ (c .before .before .before .before .before .before .before .before .field .ensures), c .before .before .before .put .ensures .end, c .before .before .before .before .before .before .before .before .field .kept .0, c .before .before .before .put .kept .0, c .before .before .before .before .before .before .before .before .before .before .before .before .before .pre)
+hex-requires c κs =
+    let at-put = c .before .before .before in
+    let at-field = at-put .before .before .before .before .before in
+    let start = at-field .before .before .before .before .before in
+    omega (arith, field-room _ _ _ _ _ _ (at-field .field .ensures), at-put .put .ensures .end, at-field .field .kept .0, at-put .put .kept .0, start .pre)
 
 returns : tie.Need-returns
 unfolding ascii
 returns c =
-    transfer-laid (now (c .before .before .before .before .before .before .before .before .before .before .before .before .before .before .before .before .args .out)) _ _ _ (now (c .before .before .before .before .before .before .before .before .before .before .before .before .before .before .before .before .args .target)) (c .before .before .before .before .before .before .before .before .before .before .before .before .before .before .before .before .args .amount) (c .before .before .before .before .before .before .before .before .before .before .before .field .result) (c .before .before .before .before .before .before .put .result) (c .before .before .hex .result)
-    (c .before .before .before .before .before .before .before .before .before .before .before .before .before .before .before .before .pre) (c .before .before .before .before .before .before .before .before .before .before .before .field .ensures) (c .before .before .before .before .before .before .put .ensures) (c .before .before .hex .ensures)
+    let at-hex = c .before .before in
+    let at-put = at-hex .before .before .before .before in
+    let at-field = at-put .before .before .before .before .before in
+    let start = at-field .before .before .before .before .before in
+    transfer-laid (now (start .args .out)) _ _ _ (now (start .args .target)) (start .args .amount) (at-field .field .result) (at-put .put .result) (at-hex .hex .result)
+    (start .pre) (at-field .field .ensures) (at-put .put .ensures) (at-hex .hex .ensures)
 
 pub transfer-line-spec : {M : Type 1} → statement M
 transfer-line-spec =

@@ -18,7 +18,10 @@ loop-holds : tie.Need-loop-holds Inv-loop μ-loop
 loop-holds c = (omega arith, omega arith, without-none _ _)
 
 returns : tie.Need-returns Inv-loop μ-loop
-returns c = (omega arith, without-all _ _ (c .before .before .loop .at) (c .before .before .loop .i) (c .before .before .before .before .args .k) (c .if1 .taken) (omega arith) (c .before .before .loop .inv .2))
+returns c =
+    let at-loop = c .before .before in
+    let start = at-loop .before .before in
+    (omega arith, without-all _ _ (at-loop .loop .at) (at-loop .loop .i) (start .args .k) (c .if1 .taken) (omega arith) (at-loop .loop .inv .2))
 
 behind-requires : tie.Need-behind-requires Inv-loop μ-loop
 behind-requires c κs = (omega arith, omega arith)

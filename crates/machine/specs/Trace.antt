@@ -34,4 +34,3 @@ stepsFrom (decoded.Done i n) m (fault k a) on = []
 unfoldable pub stepsOf : (turns : ℕ) → Env → Machine → List Took
 stepsOf zero e m = []
 stepsOf (suc n) e m = stepsFrom (decodeAt (e .code) (m .pc)) m (turnOf e m) (stepsOf n e)
-

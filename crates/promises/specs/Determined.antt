@@ -60,6 +60,8 @@ use Rattle.container.proofs.writer.write.Kinds as container-write-kinds
 use Rattle.container.proofs.writer.write.Reads as container-write
 use Rattle.changes.proofs.change_list.Kinds as change-list-kinds
 use Rattle.changes.proofs.change_list.Reads as change-list
+use Rattle.changes.proofs.merge.merge.Kinds as merge-kinds
+use Rattle.changes.proofs.merge.merge.Reads as merge
 use Rattle.interp.proofs.call.for_entry.Kinds as for-entry-kinds
 use Rattle.interp.proofs.call.for_entry.Reads as for-entry
 use Rattle.interp.proofs.call.for_genesis.Kinds as for-genesis-kinds
@@ -169,10 +171,13 @@ entry-offset-determined κs a x y u v p q = (p ∙ sym q, refl)
 pub container-write-determined : Determined _ container-write-kinds.ps container-write-kinds.r container-write.Learnt
 container-write-determined κs a x y u v p q = (p .0 ∙ sym (q .0), λ i. (tt, (tt, (tt, ((p .1 ∙ sym (q .1)) i, tt)))))
 
--- ---- the change list
+-- ---- the change list and the new store
 
 pub change-list-determined : Determined _ change-list-kinds.ps change-list-kinds.r change-list.Learnt
 change-list-determined κs a x y u v p q = (p .0 ∙ sym (q .0), λ i. (tt, (tt, (tt, (tt, (tt, ((p .1 ∙ sym (q .1)) i, tt)))))))
+
+pub merge-determined : Determined _ merge-kinds.ps merge-kinds.r merge.Learnt
+merge-determined κs a x y u v p q = (p .0 ∙ sym (q .0), λ i. (tt, (tt, (tt, ((p .1 ∙ sym (q .1)) i, tt)))))
 
 -- ---- the two calls
 

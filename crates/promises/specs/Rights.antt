@@ -150,9 +150,10 @@ pub run-righted : (e : Env) (m : Machine) (ts : List Took) (end : End) → Runs 
 unfolding storesOf grantsOf stepOf
 run-righted e m ts end (faults n k a h) ks l = tt
 run-righted e m ts end (halts n p i j f) ks l = (λ k h. l k (rw (f .step) at (store-lets e (took n i j .on) i (actionOf i) k h)), tt)
-run-righted e m ts end (goes n p i j us x f r) ks l =
-    (λ k h. l k (rw (f .step) at (store-lets e (took n i j .on) i (actionOf i) k h)),
-    run-righted e p us x r (grantsOf e (took n i j) ++ ks) (rw (f .after .keys) (act-allows e (took n i j .on) ks (actionOf i) l)))
+run-righted e m ts end (goes n p i j us x f r) ks l = (
+  λ k h. l k (rw (f .step) at (store-lets e (took n i j .on) i (actionOf i) k h)),
+  run-righted e p us x r (grantsOf e (took n i j) ++ ks) (rw (f .after .keys) (act-allows e (took n i j .on) ks (actionOf i) l)),
+)
 
 -- ---- every key of the changes was stored by a step
 

@@ -15,9 +15,10 @@ part : (c : tie.After-put-arg) →
     (g .0 ≤ g .1 .0) × (g .1 .0 ≤ length (a .memory .now))
 part c =
     let m = c .before .before .before .before in
-    let a = m .before .before .before .args in
-    (part-ordered (length (a .memory .now)) (a .at) (a .n) _ (m .mem-region .ensures) _ _ (c .before .before .region .given .1),
-    part-ends (length (a .memory .now)) (a .at) (a .n) _ (m .mem-region .ensures) _ _ (c .before .before .region .given .1))
+    let a = m .before .before .before .args in (
+      part-ordered (length (a .memory .now)) (a .at) (a .n) _ (m .mem-region .ensures) _ _ (c .before .before .region .given .1),
+      part-ends (length (a .memory .now)) (a .at) (a .n) _ (m .mem-region .ensures) _ _ (c .before .before .region .given .1),
+    )
 
 mem-region-requires : tie.Need-mem-region-requires
 mem-region-requires c κs = search needs

@@ -3,8 +3,11 @@ use mathlib.Core.Path.{refl, _∙_}
 use Prim.Native.Nat.{suc, _-_}
 use native.Mathlib.Omega.{arith}
 use borrow.Author.Needs.{needs}
+use denote.Ref.{now}
 use Rattle.machine.specs.Bridge.{lentTo}
 use Rattle.interp.specs.Ties.{parts}
+use Rattle.interp.specs.Fetched.{Fetches}
+use Rattle.interp.specs.declared.fetch.Fetched.the-variants.{Done}
 use Rattle.interp.specs.RunLaws.{Looping, loop-begins, fetch-fits, loop-refused, step-ready, loop-faults, loop-halts, loop-goes, loop-shrinks, loop-sizes}
 use Rattle.interp.proofs.exec.exec.Statement.{statement}
 use Rattle.interp.proofs.exec.exec.Tie as tie
@@ -34,19 +37,24 @@ faulted c = c .before .before .before .before .before .before .before .before .b
 abbrev halted : tie.Then2 Inv-loop μ-loop → tie.After-step Inv-loop μ-loop
 halted c = c .before .before .before .before .before .before .before .before .before .before .before .before .before .before .before .before .before .before .before .before .before
 
--- ---- the needs
+abbrev going : tie.Else2 Inv-loop μ-loop → tie.After-step Inv-loop μ-loop
+going c = c .before .before .before .before .before .before .before .before .before .before .before .before .before .before .before .before .before .before .before .before .before
 
-new-requires : tie.Need-new-requires Inv-loop μ-loop
-new-requires c κs = search needs
+-- where the turn's instruction is known, from its step
+abbrev told : tie.After-step Inv-loop μ-loop → tie.After-f2 Inv-loop μ-loop
+told c = c .before .before .before .before .before .before .before .before .before .before .before .before .before
+
+-- what the fetch says of that instruction and the run that it steps from
+fetched : (c : tie.After-f2 Inv-loop μ-loop) → Fetches (now (start (c .before .before .before) .args .code)) (c .before .before .before .loop .run) (Done (c .f2 .given .0 .0) (c .f2 .given .0 .1 .0))
+fetched c = rw (c .f2 .given .1) at (c .before .before .fetch .ensures)
+
+-- ---- the needs
 
 loop-holds : tie.Need-loop-holds Inv-loop μ-loop
 loop-holds c = loop-begins _ _ _ _ (c .new .ensures)
 
 fetch-requires : tie.Need-fetch-requires Inv-loop μ-loop
 fetch-requires c κs = fetch-fits _ _ _ _ _ _ (c .loop .inv) (start c .pre)
-
-enum-known-f : tie.Need-enum-known-f Inv-loop μ-loop
-enum-known-f c = search needs
 
 add-t31 : tie.Need-add-t31 Inv-loop μ-loop
 add-t31 c = omega (arith, fetch-fits _ _ _ _ _ _ (refused c .loop .inv) (start (refused c) .pre))
@@ -80,14 +88,11 @@ returns c =
     let told = c .before .before in
     loop-refused _ _ _ _ _ _ (refused c .loop .inv) _ _ _ (rw (told .f .given .1) at (told .before .before .fetch .ensures)) refl
 
-enum-known-f-2 : tie.Need-enum-known-f-2 Inv-loop μ-loop
-enum-known-f-2 c = search needs
-
 step-requires : tie.Need-step-requires Inv-loop μ-loop
 step-requires c κs =
-    let told = c .before .before .before .before .before .before .before .before .before .before .before .before in
-    let head = told .before .before .before in
-    step-ready _ _ _ _ _ _ (head .loop .inv) _ _ (rw (told .f2 .given .1) at (told .before .before .fetch .ensures)) (start head .pre)
+    let known = c .before .before .before .before .before .before .before .before .before .before .before .before in
+    let head = known .before .before .before in
+    step-ready _ _ _ _ _ _ (head .loop .inv) _ _ (fetched known) (start head .pre)
 
 same-length-9 : tie.Need-same-length-9 Inv-loop μ-loop
 same-length-9 c = faulted c .step .kept .1 .1 .1 .1 .1 .1 .1 .1 .1 .1 .1 .1 .1 .1 .1 .0 ∙ loop-sizes _ _ _ _ _ _ (turn (faulted c) .loop .inv) (start (turn (faulted c)) .pre) .memory
@@ -115,14 +120,8 @@ same-length-16 c = faulted c .step .kept .1 .1 .1 .1 .1 .1 .1 .1 .1 .1 .1 .1 .1 
 
 returns-2 : tie.Need-returns-2 Inv-loop μ-loop
 returns-2 c =
-    let stepping = c .before .before .before .before .before .before .before .before .before .before .before .before .before .before .before .before .before .before in
-    let told = stepping .before .before .before .before .before .before .before .before .before .before .before .before .before in
-    let fetching = told .before .before in
-    let turn = fetching .before in
-    loop-faults _ _ _ _ _ _ (turn .loop .inv) _ _ (rw (told .f2 .given .1) at (fetching .fetch .ensures)) _ _ (stepping .step .ensures) (c .if1 .taken) _
-
-put-requires : tie.Need-put-requires Inv-loop μ-loop
-put-requires c κs = search needs
+    let s = faulted c in
+    loop-faults _ _ _ _ _ _ (turn s .loop .inv) _ _ (fetched (told s)) _ _ (s .step .ensures) (c .if1 .taken) _
 
 same-length-17 : tie.Need-same-length-17 Inv-loop μ-loop
 same-length-17 c = halted c .step .kept .1 .1 .1 .1 .1 .1 .1 .1 .1 .1 .1 .1 .1 .1 .1 .0 ∙ loop-sizes _ _ _ _ _ _ (turn (halted c) .loop .inv) (start (turn (halted c)) .pre) .memory
@@ -150,33 +149,18 @@ same-length-24 c = halted c .step .kept .1 .1 .1 .1 .1 .1 .1 .1 .1 .1 .1 .1 .1 .
 
 returns-3 : tie.Need-returns-3 Inv-loop μ-loop
 returns-3 c =
-    let putting = c .before .before in
-    let tested = putting .before in
-    let stepping = tested .before .before .before .before .before .before .before .before .before .before .before .before .before .before .before .before .before .before in
-    let told = stepping .before .before .before .before .before .before .before .before .before .before .before .before .before in
-    let fetching = told .before .before in
-    let turn = fetching .before in
-    loop-halts _ _ _ _ _ _ (turn .loop .inv) _ _ (rw (told .f2 .given .1) at (fetching .fetch .ensures)) _ _ (stepping .step .ensures) (tested .if1 .left) (c .if2 .taken) _ (putting .put .ensures)
+    let s = halted c in
+    loop-halts _ _ _ _ _ _ (turn s .loop .inv) _ _ (fetched (told s)) _ _ (s .step .ensures) (c .before .before .before .if1 .left) (c .if2 .taken) _ (c .before .before .put .ensures)
 
 loop-less : tie.Need-loop-less Inv-loop μ-loop
 loop-less c =
-    let tested = c .before .before .before in
-    let stepping = tested .before .before .before .before .before .before .before .before .before .before .before .before .before .before .before .before .before .before in
-    let told = stepping .before .before .before .before .before .before .before .before .before .before .before .before .before in
-    let fetching = told .before .before in
-    let turn = fetching .before in
-    let start = turn .before .before .before .before .before .before .before .before .before .before .before .before .before .before .before .before .before .before .before .before in
-    loop-shrinks _ _ _ _ _ _ (turn .loop .inv) _ _ (rw (told .f2 .given .1) at (fetching .fetch .ensures)) _ _ (stepping .step .ensures) (start .pre) (tested .if1 .left) (c .if2 .left)
+    let s = going c in
+    loop-shrinks _ _ _ _ _ _ (turn s .loop .inv) _ _ (fetched (told s)) _ _ (s .step .ensures) (start (turn s) .pre) (c .before .before .before .if1 .left) (c .if2 .left)
 
 loop-again : tie.Need-loop-again Inv-loop μ-loop
 loop-again c =
-    let putting = c .before .before in
-    let tested = putting .before in
-    let stepping = tested .before .before .before .before .before .before .before .before .before .before .before .before .before .before .before .before .before .before in
-    let told = stepping .before .before .before .before .before .before .before .before .before .before .before .before .before in
-    let fetching = told .before .before in
-    let turn = fetching .before in
-    loop-goes _ _ _ _ _ _ (turn .loop .inv) _ _ (rw (told .f2 .given .1) at (fetching .fetch .ensures)) _ _ (stepping .step .ensures) (tested .if1 .left) (c .if2 .left) _ (putting .put .ensures)
+    let s = going c in
+    loop-goes _ _ _ _ _ _ (turn s .loop .inv) _ _ (fetched (told s)) _ _ (s .step .ensures) (c .before .before .before .if1 .left) (c .if2 .left) _ (c .before .before .put .ensures)
 
 pub exec-spec : {M : Type 1} → statement M
 exec-spec =
@@ -184,10 +168,10 @@ exec-spec =
     (tie.spec
     Inv-loop
     μ-loop
-    new-requires
+    (λ c κs. search needs)
     loop-holds
     fetch-requires
-    enum-known-f
+    (λ c. search needs)
     add-t31
     same-length
     same-length-2
@@ -198,7 +182,7 @@ exec-spec =
     same-length-7
     same-length-8
     returns
-    enum-known-f-2
+    (λ c. search needs)
     step-requires
     same-length-9
     same-length-10
@@ -209,7 +193,7 @@ exec-spec =
     same-length-15
     same-length-16
     returns-2
-    put-requires
+    (λ c κs. search needs)
     same-length-17
     same-length-18
     same-length-19

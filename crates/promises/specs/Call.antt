@@ -75,40 +75,40 @@ module _ (x : Input) (b : Lent) (c : Container) (e : Env) (m : Machine) (s : Sta
   grew-first : Growth (dispatchPrice (length (c .code))) (e .keys) (m .keys) (m .used)
   grew-first = rw (keys-first, used-first) (none-grew (dispatchPrice (length (c .code))) (e .keys))
 
-  halted-promised : (p : Machine) → Runs e m (ranOf (start e m)) (halted p) → Halted x b (dispatchPrice (length (c .code))) (start e m) (called (haltedAs p) (keptOf p b))
+  halted-promised : (p : Machine) → runOf (suc (e .limit - m .used)) e m ≡ halted p → Runs e m (ranOf (start e m)) (halted p) → Halted x b (dispatchPrice (length (c .code))) (start e m) (called (haltedAs p) (keptOf p b))
   unfolding billFor
-  halted-promised p r =
+  halted-promised p q r =
       let ts = ranOf (start e m) in
       let counts = run-counts e m ts (halted p) r in
       let d = dispatchPrice (length (c .code)) in
       let growth = run-grows d e m ts (halted p) r grew-first in
       record {
+        last = p;
+        halts = q;
+        leaves = refl;
         fetches = omega (arith, counts .fetches, fetches-first);
         used = counts .used ∙ ap (λ (n : ℕ). n + billOf e ts) used-first;
         within = omega (arith, counts .within, limit-is);
-        changes = p .keys .changes;
-        table = refl;
-        count = refl;
         rising = growth .rising;
         stored = λ j h. none-before (m .keys .changes) j (member j (storedIn ts)) (ap (λ (s : Keys). s .changes) keys-first) (run-stored e m ts (halted p) r j h);
         grown = rw (← starts-are) (grown-paid d (e .keys) (p .keys) (p .used) growth);
       }
 
-  run-promised : (end : End) → Runs e m (ranOf (start e m)) end → Promised x b c (start e m) (ending end b)
+  run-promised : (end : End) → runOf (suc (e .limit - m .used)) e m ≡ end → Runs e m (ranOf (start e m)) end → Promised x b c (start e m) (ending end b)
   unfolding fetchesOf
-  run-promised end r = record {
+  run-promised end q r = record {
     fetches = omega (arith, run-fetches e m (ranOf (start e m)) end r, fetches-are end, limit-is, used-first, fetches-first);
     righted = run-righted e m (ranOf (start e m)) end r (e .keys .writes) allows-first;
-    halted = at-zero end r;
+    halted = at-zero end q r;
   }
     where
       fetches-are : (end : End) → ending end b .answer .fetches ≡ fetchesOf end
       fetches-are (halted p) = refl
       fetches-are (faulted n a f) = refl
 
-      at-zero : (end : End) → Runs e m (ranOf (start e m)) end → ending end b .answer .number ≡ 0 → Halted x b (dispatchPrice (length (c .code))) (start e m) (ending end b)
-      at-zero (halted p) r h = halted-promised p r
-      at-zero (faulted n a f) r h = absurd (omega (arith, h, run-counts e m (ranOf (start e m)) (faulted n a f) r .numbered))
+      at-zero : (end : End) → runOf (suc (e .limit - m .used)) e m ≡ end → Runs e m (ranOf (start e m)) end → ending end b .answer .number ≡ 0 → Halted x b (dispatchPrice (length (c .code))) (start e m) (ending end b)
+      at-zero (halted p) q r h = halted-promised p q r
+      at-zero (faulted n a f) q r h = absurd (omega (arith, h, run-counts e m (ranOf (start e m)) (faulted n a f) r .numbered))
 
 -- ---- every call
 
@@ -123,7 +123,7 @@ promised x b c r = go (openingOf x b) refl (refusals-numbered x b)
         let s = starts-from x b e m q in
         let same : done c ≡ done (s .container) = sym r ∙ s .is-read in
         let is : c ≡ s .container = cc in
-        run-promised x b c e m s is (runOf (suc (e .limit - m .used)) e m) (runs (suc (e .limit - m .used)) e m (omega arith))
+        run-promised x b c e m s is (runOf (suc (e .limit - m .used)) e m) refl (runs (suc (e .limit - m .used)) e m (omega arith))
 
 pub refused-uncounted : (x : Input) (b : Lent) (n : ℕ) → openingOf x b ≡ refuse n → callOf x b ≡ called (refusedAs n 0 0) b
 unfolding callOf running

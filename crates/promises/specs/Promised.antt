@@ -7,12 +7,14 @@ use lib.ListN.{length}
 use Rattle.words.specs.Choice.{pick}
 use Rattle.words.specs.Lists.{member}
 use Rattle.meter.specs.Prices.{dispatchPrice}
-use Rattle.tables.specs.Rows.{Row, Rising, rows, bytesOf}
+use Rattle.tables.specs.Rows.{Rising, rows}
 use Rattle.keys.specs.Values.{has}
 use Rattle.changes.specs.ChangeList.{startOf}
 use Rattle.container.specs.Container.{Container}
 use Rattle.opening.specs.Opening.{Input, Lent, Opening, refuse, start}
-use Rattle.interp.specs.Call.{Called, filled}
+use Rattle.interp.specs.Call.{Called, called, haltedAs, keptOf}
+use Rattle.machine.specs.Machine.{Machine}
+use Rattle.machine.specs.Turns.{halted, runOf}
 use Rattle.machine.specs.Trace.{Took, stepsOf}
 use Rattle.promises.specs.Accounts.{billOf, Righted, storedIn}
 use Rattle.promises.specs.Grown.{tally, grew}
@@ -22,6 +24,11 @@ use Rattle.promises.specs.Grown.{tally, grew}
 unfoldable pub ranOf : Opening → List Took
 ranOf (refuse n) = []
 ranOf (start e m) = stepsOf (suc (e .limit - m .used)) e m
+
+-- it halts, and leaves this machine
+abbrev pub HaltsWith : Opening → Machine → Type 0
+HaltsWith (refuse n) p = ⊥
+HaltsWith (start e m) p = runOf (suc (e .limit - m .used)) e m ≡ halted p
 
 -- the prices of its steps, summed
 unfoldable pub billFor : Opening → ℕ
@@ -39,17 +46,17 @@ startAt x k = startOf (rows 40 (length (x .store) / 40) (x .store)) (pick (x .pr
 
 -- ---- the promises, of an opening and what the call leaves
 
--- a call that halted: its fetches are its steps, used is D and their prices, and these are the rows of its changes
+-- a call that halted leaves its last machine: its fetches are its steps, used is D and their prices, and so on of the keys it changed
 pub record Halted (x : Input) (b : Lent) (d : ℕ) (o : Opening) (r : Called) : Type 0 where
+  pub last : Machine
+  pub halts : HaltsWith o last
+  pub leaves : r ≡ called (haltedAs last) (keptOf last b)
   pub fetches : r .answer .fetches ≡ length (ranOf o)
   pub used : r .answer .used ≡ d + billFor o
   pub within : r .answer .used ≤ x .limit
-  pub changes : List Row
-  pub table : r .lent .run .keys .changes ≡ filled (bytesOf 40 changes) (b .run .keys .changes)
-  pub count : r .answer .changes ≡ length changes
-  pub rising : Rising 0 changes
-  pub stored : (k : ℕ) → has k changes ≡ true → member k (storedIn (ranOf o)) ≡ true
-  pub grown : tally (grew (startAt x)) changes ≤ 8 + (r .answer .used - d) / 227000
+  pub rising : Rising 0 (last .keys .changes)
+  pub stored : (k : ℕ) → has k (last .keys .changes) ≡ true → member k (storedIn (ranOf o)) ≡ true
+  pub grown : tally (grew (startAt x)) (last .keys .changes) ≤ 8 + (r .answer .used - d) / 227000
 
 -- over n code bytes D = 4 + 9n; however the call ends, and where it halts
 pub record Promised (x : Input) (b : Lent) (c : Container) (o : Opening) (r : Called) : Type 0 where

@@ -1,5 +1,5 @@
 -- Each end of a fetch is the turn's. Assumes nothing.
-use mathlib.Core.Path.{_≡_, refl, ap, _∙_}
+use mathlib.Core.Path.{_≡_, refl, sym}
 use mathlib.Core.Bool.{true, false}
 use mathlib.Core.List.{List}
 use Prim.Native.Nat.{ℕ, suc, _+_, _≤_, _<_}
@@ -8,7 +8,6 @@ use lib.Dec.{leb}
 use borrow.Author.Tests.{lt-ltb, le-ltb}
 use Rattle.isa.specs.Table.{priceOf}
 use Rattle.isa.specs.Forms.{formOf, padded}
-use Rattle.isa.specs.Codec.{decodeAt}
 use Rattle.isa.specs.Answers.{decodeError}
 use Rattle.isa.specs.declared.instr.Instr.{Instr}
 use Rattle.isa.specs.declared.instr.Parts.{Parts}
@@ -24,7 +23,7 @@ use Rattle.machine.specs.SoundLaws.{placeTo}
 use Rattle.machine.specs.declared.run.Run.{Run}
 use Rattle.machine.specs.declared.run.Paid.{Paid}
 use Rattle.machine.specs.declared.run.Paid.the-variants as paid
-use Rattle.interp.specs.Fetched.{Onward, Fetches}
+use Rattle.interp.specs.Fetched.{instructionIn, Onward, Fetches}
 use Rattle.interp.specs.declared.fetch.Fetched.{Fetched}
 use Rattle.interp.specs.declared.fetch.Fetched.the-variants.{Done, Refused}
 
@@ -62,8 +61,8 @@ module _ (r : Run) (i : Instr) (n price : ℕ) (q : price ≡ priceOf (formOf i 
         let t : leb (r .meter .used + priceOf (formOf i .op)) (env .limit) ≡ true = rw q at (p .passed) in
         (rw (t, le-ltb (r .pc + n) 4294967296 h), omega arith)
 
-    pub onward-done : r .pc + n < 4294967296 → Onward (decoded.Done i n) r (Done i (placeTo y (r .pc + n)))
-    unfolding fetchOf machineOf
+    pub onward-done : r .pc + n < 4294967296 → Onward (decoded.Done i n) r (Done (placeTo y (r .pc + n)))
+    unfolding instructionIn fetchOf machineOf
     onward-done h env s d f b so =
         let p = pays-on env s d r b so price x y e k in
         let t : leb (r .meter .used + priceOf (formOf i .op)) (env .limit) ≡ true = rw q at (p .passed) in
@@ -82,19 +81,16 @@ error-some (UnknownOpcode byte) = omega arith
 error-some (BadRegister byte) = omega arith
 error-some Truncated = omega arith
 
-module _ (code : List ℕ) (r : Run) where
-  pub fetch-refused : (x : DecodeError) (n a : ℕ) → decodeAt code (r .pc) ≡ decoded.Refused x → n ≡ decodeError x .number → a ≡ decodeError x .argument → Fetches code r (Refused n a)
+module _ (r : Run) where
+  pub fetch-refused : (x : DecodeError) (n a : ℕ) → n ≡ decodeError x .number → a ≡ decodeError x .argument → Fetches (decoded.Refused x) r (Refused n a)
   unfolding turnOf fetchOf machineOf
-  fetch-refused x n a h p q env s d f b c so =
-      let g : decodeAt (env .code) (r .pc) ≡ decoded.Refused x = ap (λ (l : List ℕ). decodeAt l (r .pc)) c ∙ h in
-      rw (g, p, q) (refl, error-some x)
+  fetch-refused x n a p q env s d f b c so = rw (sym c, p, q) (refl, error-some x)
 
-  pub fetch-on : (i : Instr) (n : ℕ) (t : Fetched) → decodeAt code (r .pc) ≡ decoded.Done i n
+  pub fetch-on : (i : Instr) (n : ℕ) (t : Fetched)
       → Onward (decoded.Done i n) (record { pc = r .pc; depth = r .depth; counts = r .counts; log = r .log; events = r .events; posted = r .posted; keyed = r .keyed; replies = r .replies; meter = r .meter; fetches = r .fetches + 1 }) t
-      → Fetches code r t
+      → Fetches (decoded.Done i n) r t
   unfolding turnOf machineOf
-  fetch-on i n t h on env s d f b c so =
+  fetch-on i n t on env s d f b c so =
       let o = on env s d f b (sound-at env s (suc d) d r b (r .pc) (r .fetches + 1) so (so .pc) (omega (arith, so .metered .above))) in
       let z : r .fetches + 1 ≡ suc (r .fetches) = omega arith in
-      let g : decodeAt (env .code) (r .pc) ≡ decoded.Done i n = ap (λ (l : List ℕ). decodeAt l (r .pc)) c ∙ h in
-      rw g (rw z at o)
+      rw (sym c) (rw z at o)

@@ -7,7 +7,9 @@ use native.Mathlib.Omega.{arith}
 use lib.ListN.{length, set, length-set, length-replicate}
 use Rattle.isa.specs.Table.{priceOf}
 use Rattle.isa.specs.Forms.{formOf}
+use Rattle.isa.specs.Codec.{decodeAt}
 use Rattle.isa.specs.declared.instr.Instr.{Instr}
+use Rattle.isa.specs.declared.codec.Decoded.{Decoded}
 use Rattle.state.specs.Regs.{cleared}
 use Rattle.state.specs.declared.regs.RegFile.{RegFile}
 use Rattle.keys.specs.Known.{Rooms}
@@ -23,7 +25,7 @@ use Rattle.machine.specs.Bridge.{Bufs, machineOf, Sound}
 use Rattle.machine.specs.Turned.{puts, Turned}
 use Rattle.machine.specs.declared.run.Run.{Run}
 use Rattle.machine.specs.declared.turn.Turn.{Turn}
-use Rattle.interp.specs.Fetched.{Told, Fetches}
+use Rattle.interp.specs.Fetched.{instructionIn, StepsFrom, Fetches}
 use Rattle.interp.specs.FetchLaws.{sound-at}
 use Rattle.interp.specs.Ties.{Parts, Ready, Steps}
 use Rattle.interp.specs.Runs.{Begun, Starts, EndsAs, Runs}
@@ -83,17 +85,21 @@ module _ (p : Parts) (r₀ : Run) (b₀ : Bufs) (r : Run) (f : RegFile) (b : Buf
       let z : r₀ .meter .used ≡ suc (r₀ .meter .used - 1) = omega arith in
       rw z at (x .going e g .sound)
 
-  pub loop-refused : (n a k : ℕ) → Fetches (p .code) r (Refused n a) → k ≡ r .fetches + 1 → Runs p r₀ b₀ (record { number = n; argument = a; fetches = k; run = r; file = f }) b
+  -- what was decoded there, as the environment has it
+  decoded-in : (o : Decoded) → o ≡ decodeAt (p .code) (r .pc) → (e : Env) → Begun e p r₀ b₀ → o ≡ decodeAt (e .code) (r .pc)
+  decoded-in o c e g = c ∙ ap (λ (l : List ℕ). decodeAt l (r .pc)) (sym (g .suits .code))
+
+  pub loop-refused : (o : Decoded) → o ≡ decodeAt (p .code) (r .pc) → (n a k : ℕ) → Fetches o r (Refused n a) → k ≡ r .fetches + 1 → Runs p r₀ b₀ (record { number = n; argument = a; fetches = k; run = r; file = f }) b
   unfolding endOf
-  loop-refused n a k told c e g =
-      let (q, l) = told e (p .replies) d f b (g .suits .code) (before e g) in
+  loop-refused o read n a k told c e g =
+      let (q, l) = told e (p .replies) d f b (decoded-in o read e g) (before e g) in
       let z : k ≡ suc (r .fetches) = omega (arith, c) in
       rw (one-turn e g (fault n a) q) (refl, l, refl, z)
 
   -- an instruction was fetched
-  module _ (i : Instr) (q : Run) (told : Fetches (p .code) r (Done i q)) where
-    at : (e : Env) → Begun e p r₀ b₀ → Told e (p .replies) d f b (suc (r .fetches)) (turnOf e (machineOf (p .replies) r f b)) (Done i q)
-    at e g = told e (p .replies) d f b (g .suits .code) (before e g)
+  module _ (o : Decoded) (read : o ≡ decodeAt (p .code) (r .pc)) (q : Run) (told : Fetches o r (Done q)) (i : Instr) (is-in : i ≡ instructionIn o) where
+    at : (e : Env) → Begun e p r₀ b₀ → StepsFrom e (p .replies) d f b (suc (r .fetches)) (turnOf e (machineOf (p .replies) r f b)) i q
+    at e g = rw is-in (told e (p .replies) d f b (decoded-in o read e g) (before e g))
 
     pub step-ready : Starts p r₀ b₀ → Ready p q b
     step-ready s = let y = at (s .env) (s .begun) in record { env = s .env; above = d + priceOf (formOf i .op); suits = s .begun .suits; sound = y .1 }

@@ -57,7 +57,8 @@ pub fn exec(
     let mut file = RegFile::new();
     let mut run = start;
     loop {
-        let f = crate::fetch::fetch(code, run);
+        let d = isa::codec::decode(code, run.pc as usize);
+        let f = crate::fetch::fetch(d, run);
         match f {
             Fetched::Refused(number, argument) => {
                 return Ended {
@@ -68,7 +69,8 @@ pub fn exec(
                     file,
                 };
             }
-            Fetched::Done(i, q) => {
+            Fetched::Done(q) => {
+                let i = crate::fetch::instruction(d);
                 let t = crate::step::step(
                     i,
                     q,

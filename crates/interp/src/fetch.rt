@@ -1,16 +1,16 @@
-// Fetching an instruction: decode, base price, next address.
+// Fetching an instruction: what decode said of it, its base price, the next address.
 ghost use mathlib.Core.Path.{_≡_};
 ghost use Prim.Native.Nat.{_+_, _<_};
-ghost use Rattle.interp.specs.Fetched.{Onward, Fetches};
+ghost use Rattle.interp.specs.Fetched.{instructionIn, ReadAt, Onward, Fetches};
 ghost use Rattle.isa.specs.declared.codec.Decoded.the-variants as Decoded;
 use isa::codec::Decoded;
 use isa::instr::Instr;
 use machine::run::Paid;
 use machine::run::Run;
 
-// The instruction and the run that it steps from; or a number and its argument.
+// The run that the instruction steps from; or a number and its argument.
 pub enum Fetched {
-    Done(Instr, Run),
+    Done(Run),
     Refused(u64, u64),
 }
 
@@ -30,15 +30,14 @@ fn onward(i: Instr, n: usize, run: Run) -> Fetched
     }
     let mut at = paid;
     at.pc = next;
-    Fetched::Done(i, at)
+    Fetched::Done(at)
 }
 
-// The instruction at the run's place. It counts as fetched whatever comes of it.
-pub fn fetch(code: &[u8], run: Run) -> Fetched
-    requires { ⌜ run .fetches < run .meter .used ⌝ }
-    ensures { λ r. ⌜ Fetches (now (code .entry)) run r ⌝ }
+// What was decoded at the run's place. It counts as fetched whatever comes of it.
+pub fn fetch(d: Decoded, run: Run) -> Fetched
+    requires { ⌜ (run .fetches < run .meter .used) × ReadAt d run ⌝ }
+    ensures { λ r. ⌜ Fetches d run r ⌝ }
 {
-    let d = isa::codec::decode(code, run.pc as usize);
     let Decoded::Done(i, n) = d else {
         let Decoded::Refused(e) = d else {
             return Fetched::Refused(17, 0);
@@ -48,4 +47,14 @@ pub fn fetch(code: &[u8], run: Run) -> Fetched
     let mut counted = run;
     counted.fetches = run.fetches + 1;
     onward(i, n, counted)
+}
+
+// The instruction that was decoded, taken out where it is stepped with: inside `Fetched` it would go through memory once more.
+pub fn instruction(d: Decoded) -> Instr
+    ensures { λ r. ⌜ r ≡ instructionIn d ⌝ }
+{
+    match d {
+        Decoded::Done(i, _) => i,
+        Decoded::Refused(_) => Instr::Halt,
+    }
 }

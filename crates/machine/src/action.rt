@@ -5,7 +5,7 @@ use isa::instr::Instr;
 
 // Constants, the stack, memory.
 pub enum Move {
-    Ldc(u8, u16),
+    Ldc(u8, usize),
     Push(u8),
     Pop(u8),
     MLoad(u8, u8),
@@ -13,10 +13,10 @@ pub enum Move {
 }
 
 pub enum Jump {
-    Jmp(u32),
-    Jz(u8, u32),
-    Jnz(u8, u32),
-    Call(u32),
+    Jmp(u64),
+    Jz(u8, u64),
+    Jnz(u8, u64),
+    Call(u64),
     Ret,
 }
 
@@ -58,7 +58,7 @@ pub fn action_of(i: Instr) -> Action
         Instr::Nop => Action::Nop,
         Instr::Mov { d: _, a: _ } => Action::Registers,
         Instr::Ldi { d: _, imm: _ } => Action::Registers,
-        Instr::Ldc { d, idx } => Action::Moves(Move::Ldc(d, idx)),
+        Instr::Ldc { d, idx } => Action::Moves(Move::Ldc(d, idx as usize)),
         Instr::Add { d: _, a: _, b: _ } => Action::Registers,
         Instr::Sub { d: _, a: _, b: _ } => Action::Registers,
         Instr::Mul { d: _, a: _, b: _ } => Action::Registers,
@@ -97,10 +97,10 @@ pub fn action_of(i: Instr) -> Action
         Instr::Pop { d } => Action::Moves(Move::Pop(d)),
         Instr::MLoad { d, a } => Action::Moves(Move::MLoad(d, a)),
         Instr::MStore { a, b } => Action::Moves(Move::MStore(a, b)),
-        Instr::Jmp { target } => Action::Jumps(Jump::Jmp(target)),
-        Instr::Jz { a, target } => Action::Jumps(Jump::Jz(a, target)),
-        Instr::Jnz { a, target } => Action::Jumps(Jump::Jnz(a, target)),
-        Instr::Call { target } => Action::Jumps(Jump::Call(target)),
+        Instr::Jmp { target } => Action::Jumps(Jump::Jmp(target as u64)),
+        Instr::Jz { a, target } => Action::Jumps(Jump::Jz(a, target as u64)),
+        Instr::Jnz { a, target } => Action::Jumps(Jump::Jnz(a, target as u64)),
+        Instr::Call { target } => Action::Jumps(Jump::Call(target as u64)),
         Instr::Ret => Action::Jumps(Jump::Ret),
         Instr::SLoad { d, a } => Action::Storage(Access::SLoad(d, a)),
         Instr::SStore { a, b } => Action::Storage(Access::SStore(a, b)),

@@ -27,6 +27,35 @@ pub enum Paid {
 }
 
 impl Run {
+    // The same run, put together from its fields: one that is copied whole goes through memory in every turn.
+    pub fn by_fields(self) -> Run
+        ensures { λ r. ⌜ r ≡ self ⌝ }
+    {
+        let c = self.counts;
+        let m = self.meter;
+        Run {
+            pc: self.pc,
+            depth: self.depth,
+            counts: Counts {
+                changes: c.changes,
+                fetched: c.fetched,
+                reads: c.reads,
+                writes: c.writes,
+                paid: c.paid,
+            },
+            log: self.log,
+            events: self.events,
+            posted: self.posted,
+            keyed: self.keyed,
+            replies: self.replies,
+            meter: Meter {
+                used: m.used,
+                limit: m.limit,
+            },
+            fetches: self.fetches,
+        }
+    }
+
     // The run with a price paid, where the limit allows it.
     pub fn pay(self, price: u64) -> Paid
         ensures { λ r. ⌜ r ≡ paidBy self price ⌝ }

@@ -24,7 +24,7 @@ pub fn set(run: Run, d: u8, v: u64) -> Turn
     ensures { λ r. ⌜ r ≡ sets run d v ⌝ }
 {
     Turn {
-        run,
+        run: run.by_fields(),
         put: Put { d, v, e: 255, w: 0 },
         fault: 0,
         halted: false,

@@ -1,5 +1,4 @@
 // Jumps, calls and returns.
-ghost use mathlib.Core.Path.{_≡_};
 ghost use Prim.Native.Nat.{_≤_};
 ghost use lib.ListN.{length};
 ghost use Rattle.moves.specs.Contracts.{Jumps, JumpsTo, Calls, Returns};
@@ -56,20 +55,20 @@ pub fn step(o: Jump, run: Run, regs: &[u64], map: &[u8], stack: &mut [u64]) -> T
     ensures { λ r. ⌜ Jumps o run (now (regs .entry)) (now (map .entry)) (now (stack .entry)) (now (stack .exit)) r ⌝ }
 {
     match o {
-        Jump::Jmp(target) => jump(run, map, target as u64),
+        Jump::Jmp(target) => jump(run, map, target),
         Jump::Jz(a, target) => {
             if state::regs::read(regs, a) != 0 {
                 return machine::turn::go_on(run);
             }
-            jump(run, map, target as u64)
+            jump(run, map, target)
         }
         Jump::Jnz(a, target) => {
             if state::regs::read(regs, a) == 0 {
                 return machine::turn::go_on(run);
             }
-            jump(run, map, target as u64)
+            jump(run, map, target)
         }
-        Jump::Call(target) => call(run, map, stack, target as u64),
+        Jump::Call(target) => call(run, map, stack, target),
         Jump::Ret => ret(run, map, stack),
     }
 }

@@ -1,5 +1,4 @@
 // Constants, the stack and memory.
-ghost use mathlib.Core.Path.{_≡_};
 ghost use Prim.Native.Nat.{_≤_};
 ghost use lib.ListN.{length};
 ghost use Rattle.moves.specs.Contracts.{Moves, Constants, Pushes, Pops, Loads, Stores};
@@ -11,14 +10,13 @@ use state::stack::Popped;
 use state::stack::Pushed;
 
 // Constant k, where it stands among the container's bytes.
-fn constant(run: Run, consts: &[u8], d: u8, k: u16) -> Turn
+fn constant(run: Run, consts: &[u8], d: u8, k: usize) -> Turn
     ensures { λ r. ⌜ Constants run (now (consts .entry)) d k r ⌝ }
 {
-    let i = k as usize;
-    if consts.len() / 8 <= i {
+    if consts.len() / 8 <= k {
         return machine::turn::stop(run, 8);
     }
-    let v = words::bytes::read(consts, i * 8, 8);
+    let v = words::bytes::read(consts, k * 8, 8);
     machine::turn::set(run, d, v)
 }
 

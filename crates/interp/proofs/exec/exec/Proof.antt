@@ -20,15 +20,12 @@ abbrev μ-loop : tie.MeasureT-loop
 μ-loop lent host code consts reads writes kreads kwrites store loader replies map memory₀ stack₀ changes₀ fetched₀ readable₀ writable₀ paid₀ log₀ file₀ run₀ memory stack changes fetched readable writable paid log file run =
     suc (run₀ .meter .limit - run₀ .meter .used) - run .fetches
 
--- ---- places: from a turn's head to the start, from its ends to its head or to its step
+-- ---- places: from a turn's ends to its step, and from there to its instruction, its decoding, its head and the start
 
 abbrev start : tie.At-loop Inv-loop μ-loop → tie.Start Inv-loop μ-loop
 start c = c .before .before .before .before .before .before .before .before .before .before .before .before .before .before .before .before .before .before .before .before
 
-abbrev turn : tie.After-step Inv-loop μ-loop → tie.At-loop Inv-loop μ-loop
-turn c = c .before .before .before .before .before .before .before .before .before .before .before .before .before .before .before .before
-
-abbrev refused : tie.After-struct-known Inv-loop μ-loop → tie.At-loop Inv-loop μ-loop
+abbrev refused : tie.After-struct-known Inv-loop μ-loop → tie.After-decode Inv-loop μ-loop
 refused c = c .before .before .before .before .before
 
 abbrev faulted : tie.Then1 Inv-loop μ-loop → tie.After-step Inv-loop μ-loop
@@ -40,13 +37,18 @@ halted c = c .before .before .before .before .before .before .before .before .be
 abbrev going : tie.Else2 Inv-loop μ-loop → tie.After-step Inv-loop μ-loop
 going c = c .before .before .before .before .before .before .before .before .before .before .before .before .before .before .before .before .before .before .before .before .before
 
--- where the turn's instruction is known, from its step
-abbrev told : tie.After-step Inv-loop μ-loop → tie.After-f2 Inv-loop μ-loop
-told c = c .before .before .before .before .before .before .before .before .before .before .before .before .before
+abbrev taken : tie.After-step Inv-loop μ-loop → tie.After-instruction Inv-loop μ-loop
+taken c = c .before .before .before .before .before .before .before .before .before .before .before .before
 
--- what the fetch says of that instruction and the run that it steps from
-fetched : (c : tie.After-f2 Inv-loop μ-loop) → Fetches (now (start (c .before .before .before) .args .code)) (c .before .before .before .loop .run) (Done (c .f2 .given .0 .0) (c .f2 .given .0 .1 .0))
-fetched c = rw (c .f2 .given .1) at (c .before .before .fetch .ensures)
+abbrev decoded : tie.After-instruction Inv-loop μ-loop → tie.After-decode Inv-loop μ-loop
+decoded c = c .before .before .before .before .before
+
+abbrev turn : tie.After-step Inv-loop μ-loop → tie.At-loop Inv-loop μ-loop
+turn c = decoded (taken c) .before
+
+-- what the fetch says of the run that the instruction steps from
+fetched : (c : tie.After-instruction Inv-loop μ-loop) → Fetches (decoded c .decode .result) (decoded c .before .loop .run) (Done (c .before .before .f2 .given .0 .0))
+fetched c = rw (c .before .before .f2 .given .1) at (c .before .before .before .before .fetch .ensures)
 
 -- ---- the needs
 
@@ -54,45 +56,47 @@ loop-holds : tie.Need-loop-holds Inv-loop μ-loop
 loop-holds c = loop-begins _ _ _ _ (c .new .ensures)
 
 fetch-requires : tie.Need-fetch-requires Inv-loop μ-loop
-fetch-requires c κs = fetch-fits _ _ _ _ _ _ (c .loop .inv) (start c .pre)
+fetch-requires c κs =
+    let head = c .before in
+    (fetch-fits _ _ _ _ _ _ (head .loop .inv) (start head .pre), (now (start head .args .code), c .decode .ensures, omega (arith, start head .good .1 .1 .1 .0)))
 
-add-t31 : tie.Need-add-t31 Inv-loop μ-loop
-add-t31 c = omega (arith, fetch-fits _ _ _ _ _ _ (refused c .loop .inv) (start (refused c) .pre))
+add-t33 : tie.Need-add-t33 Inv-loop μ-loop
+add-t33 c = omega (arith, fetch-fits _ _ _ _ _ _ (refused c .before .loop .inv) (start (refused c .before) .pre))
 
 same-length : tie.Need-same-length Inv-loop μ-loop
-same-length c = loop-sizes _ _ _ _ _ _ (refused c .loop .inv) (start (refused c) .pre) .memory
+same-length c = loop-sizes _ _ _ _ _ _ (refused c .before .loop .inv) (start (refused c .before) .pre) .memory
 
 same-length-2 : tie.Need-same-length-2 Inv-loop μ-loop
-same-length-2 c = loop-sizes _ _ _ _ _ _ (refused c .loop .inv) (start (refused c) .pre) .stack
+same-length-2 c = loop-sizes _ _ _ _ _ _ (refused c .before .loop .inv) (start (refused c .before) .pre) .stack
 
 same-length-3 : tie.Need-same-length-3 Inv-loop μ-loop
-same-length-3 c = loop-sizes _ _ _ _ _ _ (refused c .loop .inv) (start (refused c) .pre) .changes
+same-length-3 c = loop-sizes _ _ _ _ _ _ (refused c .before .loop .inv) (start (refused c .before) .pre) .changes
 
 same-length-4 : tie.Need-same-length-4 Inv-loop μ-loop
-same-length-4 c = loop-sizes _ _ _ _ _ _ (refused c .loop .inv) (start (refused c) .pre) .fetched
+same-length-4 c = loop-sizes _ _ _ _ _ _ (refused c .before .loop .inv) (start (refused c .before) .pre) .fetched
 
 same-length-5 : tie.Need-same-length-5 Inv-loop μ-loop
-same-length-5 c = loop-sizes _ _ _ _ _ _ (refused c .loop .inv) (start (refused c) .pre) .readable
+same-length-5 c = loop-sizes _ _ _ _ _ _ (refused c .before .loop .inv) (start (refused c .before) .pre) .readable
 
 same-length-6 : tie.Need-same-length-6 Inv-loop μ-loop
-same-length-6 c = loop-sizes _ _ _ _ _ _ (refused c .loop .inv) (start (refused c) .pre) .writable
+same-length-6 c = loop-sizes _ _ _ _ _ _ (refused c .before .loop .inv) (start (refused c .before) .pre) .writable
 
 same-length-7 : tie.Need-same-length-7 Inv-loop μ-loop
-same-length-7 c = loop-sizes _ _ _ _ _ _ (refused c .loop .inv) (start (refused c) .pre) .paid
+same-length-7 c = loop-sizes _ _ _ _ _ _ (refused c .before .loop .inv) (start (refused c .before) .pre) .paid
 
 same-length-8 : tie.Need-same-length-8 Inv-loop μ-loop
-same-length-8 c = loop-sizes _ _ _ _ _ _ (refused c .loop .inv) (start (refused c) .pre) .log
+same-length-8 c = loop-sizes _ _ _ _ _ _ (refused c .before .loop .inv) (start (refused c .before) .pre) .log
 
 returns : tie.Need-returns Inv-loop μ-loop
 returns c =
     let told = c .before .before in
-    loop-refused _ _ _ _ _ _ (refused c .loop .inv) _ _ _ (rw (told .f .given .1) at (told .before .before .fetch .ensures)) refl
+    loop-refused _ _ _ _ _ _ (refused c .before .loop .inv) _ (refused c .decode .ensures) _ _ _ (rw (told .f .given .1) at (told .before .before .fetch .ensures)) refl
 
 step-requires : tie.Need-step-requires Inv-loop μ-loop
 step-requires c κs =
-    let known = c .before .before .before .before .before .before .before .before .before .before .before .before in
-    let head = known .before .before .before in
-    step-ready _ _ _ _ _ _ (head .loop .inv) _ _ (fetched known) (start head .pre)
+    let i = c .before .before .before .before .before .before .before .before .before .before .before in
+    let head = decoded i .before in
+    step-ready _ _ _ _ _ _ (head .loop .inv) _ (decoded i .decode .ensures) _ (fetched i) _ (i .instruction .ensures) (start head .pre)
 
 same-length-9 : tie.Need-same-length-9 Inv-loop μ-loop
 same-length-9 c = faulted c .step .kept .1 .1 .1 .1 .1 .1 .1 .1 .1 .1 .1 .1 .1 .1 .1 .0 ∙ loop-sizes _ _ _ _ _ _ (turn (faulted c) .loop .inv) (start (turn (faulted c)) .pre) .memory
@@ -121,7 +125,7 @@ same-length-16 c = faulted c .step .kept .1 .1 .1 .1 .1 .1 .1 .1 .1 .1 .1 .1 .1 
 returns-2 : tie.Need-returns-2 Inv-loop μ-loop
 returns-2 c =
     let s = faulted c in
-    loop-faults _ _ _ _ _ _ (turn s .loop .inv) _ _ (fetched (told s)) _ _ (s .step .ensures) (c .if1 .taken) _
+    loop-faults _ _ _ _ _ _ (turn s .loop .inv) _ (decoded (taken s) .decode .ensures) _ (fetched (taken s)) _ (taken s .instruction .ensures) _ _ (s .step .ensures) (c .if1 .taken) _
 
 same-length-17 : tie.Need-same-length-17 Inv-loop μ-loop
 same-length-17 c = halted c .step .kept .1 .1 .1 .1 .1 .1 .1 .1 .1 .1 .1 .1 .1 .1 .1 .0 ∙ loop-sizes _ _ _ _ _ _ (turn (halted c) .loop .inv) (start (turn (halted c)) .pre) .memory
@@ -150,17 +154,17 @@ same-length-24 c = halted c .step .kept .1 .1 .1 .1 .1 .1 .1 .1 .1 .1 .1 .1 .1 .
 returns-3 : tie.Need-returns-3 Inv-loop μ-loop
 returns-3 c =
     let s = halted c in
-    loop-halts _ _ _ _ _ _ (turn s .loop .inv) _ _ (fetched (told s)) _ _ (s .step .ensures) (c .before .before .before .if1 .left) (c .if2 .taken) _ (c .before .before .put .ensures)
+    loop-halts _ _ _ _ _ _ (turn s .loop .inv) _ (decoded (taken s) .decode .ensures) _ (fetched (taken s)) _ (taken s .instruction .ensures) _ _ (s .step .ensures) (c .before .before .before .if1 .left) (c .if2 .taken) _ (c .before .before .put .ensures)
 
 loop-less : tie.Need-loop-less Inv-loop μ-loop
 loop-less c =
     let s = going c in
-    loop-shrinks _ _ _ _ _ _ (turn s .loop .inv) _ _ (fetched (told s)) _ _ (s .step .ensures) (start (turn s) .pre) (c .before .before .before .if1 .left) (c .if2 .left)
+    loop-shrinks _ _ _ _ _ _ (turn s .loop .inv) _ (decoded (taken s) .decode .ensures) _ (fetched (taken s)) _ (taken s .instruction .ensures) _ _ (s .step .ensures) (start (turn s) .pre) (c .before .before .before .if1 .left) (c .if2 .left)
 
 loop-again : tie.Need-loop-again Inv-loop μ-loop
 loop-again c =
     let s = going c in
-    loop-goes _ _ _ _ _ _ (turn s .loop .inv) _ _ (fetched (told s)) _ _ (s .step .ensures) (c .before .before .before .if1 .left) (c .if2 .left) _ (c .before .before .put .ensures)
+    loop-goes _ _ _ _ _ _ (turn s .loop .inv) _ (decoded (taken s) .decode .ensures) _ (fetched (taken s)) _ (taken s .instruction .ensures) _ _ (s .step .ensures) (c .before .before .before .if1 .left) (c .if2 .left) _ (c .before .before .put .ensures)
 
 pub exec-spec : {M : Type 1} → statement M
 exec-spec =
@@ -170,9 +174,10 @@ exec-spec =
     μ-loop
     (λ c κs. search needs)
     loop-holds
+    (λ c κs. search needs)
     fetch-requires
     (λ c. search needs)
-    add-t31
+    add-t33
     same-length
     same-length-2
     same-length-3
@@ -183,6 +188,7 @@ exec-spec =
     same-length-8
     returns
     (λ c. search needs)
+    (λ c κs. search needs)
     step-requires
     same-length-9
     same-length-10

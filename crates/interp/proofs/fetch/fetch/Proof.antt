@@ -3,14 +3,10 @@ use borrow.Author.Needs.{needs}
 use mathlib.Core.Path.{_≡_, sym, _∙_}
 use Prim.Native.Nat.{ℕ}
 use native.Mathlib.Omega.{arith}
-use denote.Ref.{now}
 use Rattle.isa.specs.RoundTrip.{decode-place}
 use Rattle.interp.specs.FetchLaws.{fetch-refused, fetch-on}
 use Rattle.interp.proofs.fetch.fetch.Statement.{statement}
 use Rattle.interp.proofs.fetch.fetch.Tie as tie
-
-decode-requires : tie.Need-decode-requires
-decode-requires c κs = search needs
 
 enum-known-d : tie.Need-enum-known-d
 enum-known-d c = search needs
@@ -37,9 +33,7 @@ returns-2 : tie.Need-returns-2
 returns-2 c =
     let numbered = c .before in
     let refused = numbered .before .before in
-    let decoded = refused .before .before .before in
-    let decoding = decoded .before .before in
-    fetch-refused _ _ _ _ _ (sym (decoding .decode .ensures) ∙ decoded .d2 .given .1 ∙ refused .d3 .given .1) (numbered .number .ensures) (c .argument .ensures)
+    rw (refused .before .before .before .d2 .given .1 ∙ refused .d3 .given .1) (fetch-refused _ _ _ _ (numbered .number .ensures) (c .argument .ensures))
 
 add-counted : tie.Need-add-counted
 add-counted c = search needs
@@ -47,22 +41,18 @@ add-counted c = search needs
 onward-requires : tie.Need-onward-requires
 onward-requires c κs =
     let decoded = c .before .before in
-    let decoding = decoded .before .before in
-    let start = decoding .before .before in
-    let p = decode-place (now (start .args .code)) (start .args .run .pc) _ _ (sym (decoding .decode .ensures) ∙ decoded .d .given .1) in omega (arith, p .within)
+    let (code, read, short) = decoded .before .before .pre .1 in
+    let p = decode-place code (decoded .before .before .args .run .pc) _ _ (sym read ∙ decoded .d .given .1) in omega (arith, p .within, short)
 
 returns-3 : tie.Need-returns-3
 returns-3 c =
     let decoded = c .before .before .before in
-    let decoding = decoded .before .before in
-    let start = decoding .before .before in
-    fetch-on (now (start .args .code)) (start .args .run) (decoded .d .given .0 .0) (decoded .d .given .0 .1 .0) (c .onward .result) (sym (decoding .decode .ensures) ∙ decoded .d .given .1) (c .onward .ensures)
+    rw (decoded .d .given .1) (fetch-on (decoded .before .before .args .run) (decoded .d .given .0 .0) (decoded .d .given .0 .1 .0) (c .onward .result) (c .onward .ensures))
 
 pub fetch-spec : {M : Type 1} → statement M
 fetch-spec =
     tie.close
     (tie.spec
-    decode-requires
     enum-known-d
     enum-known-d-2
     enum-known-d-3

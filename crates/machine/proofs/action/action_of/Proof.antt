@@ -18,6 +18,7 @@ action-of-spec =
     (λ c. search needs) (λ c. search needs) (λ c. search needs) (λ c. search needs) (λ c. search needs)
     (λ c. search needs) (λ c. search needs) (λ c. search needs) (λ c. search needs) (λ c. search needs)
     (λ c. search needs) (λ c. search needs) (λ c. search needs) (λ c. search needs) (λ c. search needs)
+    (λ c. search needs) (λ c. search needs) (λ c. search needs) (λ c. search needs) (λ c. search needs)
     (λ c. search needs) (λ c. search needs) (λ c. search needs) (λ c. search action-told) (λ c. search action-told)
     (λ c. search action-told) (λ c. search action-told) (λ c. search action-told) (λ c. search action-told) (λ c. search action-told)
     (λ c. search action-told) (λ c. search action-told) (λ c. search action-told) (λ c. search action-told) (λ c. search action-told)

@@ -11,9 +11,6 @@ use Rattle.moves.proofs.jumps.step.Tie as tie
 enum-known-o : tie.Need-enum-known-o
 enum-known-o c = search needs
 
-cast-jump : tie.Need-cast-jump
-cast-jump c = search needs
-
 jump-requires : tie.Need-jump-requires
 jump-requires c κs = search needs
 
@@ -33,9 +30,6 @@ returns c =
     let reading = tested .before in
     let told = reading .before .before in
     rw (c .go-on .ensures, told .o2 .given .1) (λ x mem lm h. on-other x _ _ mem _ _ _ (reading .read .ensures) (jumping (x .env) _) next _ (tested .if1 .taken) (goes-on x _ _ mem _))
-
-cast-jump-2 : tie.Need-cast-jump-2
-cast-jump-2 c = search needs
 
 jump-requires-2 : tie.Need-jump-requires-2
 jump-requires-2 c κs = search needs
@@ -57,17 +51,11 @@ returns-2 c =
     let o3-at = reading .before .before in
     rw (c .go-on2 .ensures, o3-at .o3 .given .1) (λ x mem lm h. on-zero x _ _ mem _ _ _ (reading .read2 .ensures) next (jumping (x .env) _) _ (tested-again .if2 .taken) (goes-on x _ _ mem _))
 
-cast-jump-3 : tie.Need-cast-jump-3
-cast-jump-3 c = search needs
-
 jump-requires-3 : tie.Need-jump-requires-3
 jump-requires-3 c κs = search needs
 
 enum-known-o-4 : tie.Need-enum-known-o-4
 enum-known-o-4 c = search needs
-
-cast-call : tie.Need-cast-call
-cast-call c = search needs
 
 call-requires : tie.Need-call-requires
 call-requires c κs = search needs
@@ -122,22 +110,18 @@ step-spec =
     tie.close
     (tie.spec
     enum-known-o
-    cast-jump
     jump-requires
     enum-known-o-2
     read-requires
     go-on-requires
     returns
-    cast-jump-2
     jump-requires-2
     enum-known-o-3
     read-requires-2
     go-on-requires-2
     returns-2
-    cast-jump-3
     jump-requires-3
     enum-known-o-4
-    cast-call
     call-requires
     enum-told
     ret-requires

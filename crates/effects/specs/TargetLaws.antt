@@ -2,8 +2,10 @@
 use mathlib.Core.Path.{_≡_, refl, sym, ap, _∙_}
 use mathlib.Core.Bool.{Bool, true, false}
 use mathlib.Core.List.{List, [], _∷_}
-use Prim.Native.Nat.{ℕ, _+_, _≤_, _<_}
+use mathlib.Core.Logic.{_⊎_, inl, inr}
+use Prim.Native.Nat.{ℕ, _+_, _-_, _≤_, _<_}
 use native.Mathlib.Omega.{arith}
+use native.Mathlib.Nat.{eq-or-lt-of-le}
 use lib.ListN.{length, take, drop, getD, length-drop}
 use lib.Seq.{take-all, take-take, length-take-le, getD-take, getD-drop, ext-getD}
 use lib.Dec.{eqb, leb}
@@ -122,7 +124,15 @@ hit-here g log t e es (q, b) = go (alikeOf t (g .kind) (length (g .bytes))) refl
         hit g e es ∙ rw (is ∙ r) (ap (λ (x : List ℕ). same x (g .bytes)) p)
     go false r = hit g e es ∙ rw (is ∙ r)
 
--- bytes compared one by one
+-- bytes compared one by one, the last first
+
+pub one-more : (log ys : List ℕ) (from i : ℕ) → ((k : ℕ) → i ≤ k → k < length ys → getD log (from + k) 0 ≡ getD ys k 0) → getD log (from + (i - 1)) 0 ≡ getD ys (i - 1) 0
+    → (k : ℕ) → i - 1 ≤ k → k < length ys → getD log (from + k) 0 ≡ getD ys k 0
+one-more log ys from i f e k l m = go (eq-or-lt-of-le l)
+  where
+    go : (i - 1 ≡ k) ⊎ (i - 1 < k) → getD log (from + k) 0 ≡ getD ys k 0
+    go (inl q) = rw q at e
+    go (inr q) = f k (omega arith) m
 
 module _ (log ys : List ℕ) (from : ℕ) (h : from + length ys ≤ length log) where
   part : length (take (length ys) (drop from log)) ≡ length ys

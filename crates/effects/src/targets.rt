@@ -58,15 +58,15 @@ pub fn known(log: &[u8], end: usize, kind: u8, target: &[u8]) -> bool
         if !alike(t, kind, target.len()) {
             continue 'walk;
         }
-        let mut i = 0;
+        let mut i = target.len();
         loop {
-            if i == target.len() {
+            if i == 0 {
                 break 'walk true;
             }
+            i -= 1;
             if log[at + i] != target[i] {
                 break;
             }
-            i += 1;
         }
     }
 }

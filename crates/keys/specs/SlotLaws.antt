@@ -1,14 +1,14 @@
 -- Laws of declared slots: what is left of a search decides, and which keys are a slot's. Assumes nothing.
 use mathlib.Core.Path.{_≡_, refl, sym, ap, _∙_}
 use mathlib.Core.Bool.{true, false}
-use mathlib.Core.List.{List, [], _∷_, _++_}
+use mathlib.Core.List.{List, [], _∷_}
 use Prim.Native.Nat.{ℕ, zero, suc, _+_, _*_, _-_, _≤_, _<_, _/_}
 use native.Mathlib.Omega.{arith}
 use lib.ListN.{length, take, drop, replicate, take-append-drop, length-drop}
 use lib.Seq.{drop-drop, getD-drop, take-all}
 use borrow.Author.Tests.{eq-eqb, ne-eqb}
 use Rattle.words.specs.Bytes.{num, numFrom, Bytes, wordsOf}
-use Rattle.words.specs.BytesTheorems.{num-below}
+use Rattle.words.specs.BytesTheorems.{numFrom-append, num-below}
 use Rattle.words.specs.Lists.{member}
 use Rattle.tables.specs.Order.{orderOf}
 use Rattle.tables.specs.OrderLaws.{order-equal, equal-is}
@@ -45,11 +45,6 @@ module _ (n i x : ℕ) (s : List ℕ) where
   listed-end h = let j : n - i ≡ 0 = omega arith in rw j
 
 -- ---- a key of 32 bytes is a slot's if its first 24 bytes are 0
-
-numFrom-append : (a b : List ℕ) (x : ℕ) → numFrom x (a ++ b) ≡ numFrom (numFrom x a) b
-unfolding numFrom
-numFrom-append [] b x = refl
-numFrom-append (y ∷ a) b x = numFrom-append a b (x * 256 + y)
 
 numFrom-low : (ys : List ℕ) (n x y : ℕ) → x ≤ y → length ys ≡ n → numFrom x (replicate n 0) ≤ numFrom y ys
 unfolding numFrom

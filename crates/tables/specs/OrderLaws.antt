@@ -3,15 +3,15 @@ use mathlib.Core.Path.{_≡_, refl, sym, ap, _∙_}
 use mathlib.Core.Bool.{Bool, true, false}
 use mathlib.Core.List.{List, [], _∷_}
 use mathlib.Core.Logic.{_⊎_, inl, inr}
-use Prim.Native.Nat.{ℕ, suc, _+_, _*_, _≤_, _<_}
+use Prim.Native.Nat.{ℕ, zero, suc, _+_, _*_, _≤_, _<_}
 use native.Mathlib.Omega.{arith}
-use native.Mathlib.Numerals.{add-one}
 use native.Mathlib.Nat.{eq-or-lt-of-le}
-use lib.ListN.{length, drop, getD, length-drop, drop-of-length-le}
-use lib.Seq.{drop-cons, getD-drop}
+use lib.ListN.{length, take, drop, take-append-drop, length-drop, drop-of-length-le}
+use lib.Seq.{drop-drop, getD-drop, length-take-le}
 use lib.Dec.{ltb}
 use borrow.Author.Tests.{lt-ltb, le-ltb, ltb-true, ltb-false}
-use Rattle.words.specs.Bytes.{num, numFrom, Bytes}
+use Rattle.words.specs.Bytes.{num, numFrom, beBytes, Bytes}
+use Rattle.words.specs.BytesTheorems.{numFrom-append, write-back}
 use Rattle.tables.specs.Order.{orderOf}
 use Rattle.tables.specs.declared.order.Order.the-variants.{Less, Equal, Greater}
 
@@ -78,6 +78,28 @@ numFrom-less [] (b ∷ ys) x y e ba h = absurd (omega arith)
 numFrom-less (a ∷ xs) [] x y e ba h = absurd (omega arith)
 numFrom-less (a ∷ xs) (b ∷ ys) x y e ba h = numFrom-less xs ys (x * 256 + a) (y * 256 + b) (omega arith) (λ i. ba (suc i)) (omega (arith, ba 0))
 
+-- whatever stands in front, bytes of one length keep their order
+front-any : (xs ys : List ℕ) (x y : ℕ) → length xs ≡ length ys → Bytes xs → Bytes ys → numFrom x xs < numFrom x ys → numFrom y xs < numFrom y ys
+unfolding numFrom
+front-any [] [] x y e ba bb h = absurd (omega arith)
+front-any [] (b ∷ ys) x y e ba bb h = absurd (omega arith)
+front-any (a ∷ xs) [] x y e ba bb h = absurd (omega arith)
+front-any (a ∷ xs) (b ∷ ys) x y e ba bb h = go (tri a b) (λ u v l. front-any xs ys u v (omega arith) (λ i. ba (suc i)) (λ i. bb (suc i)) l)
+  where
+    go : Tri a b → ((u v : ℕ) → numFrom u xs < numFrom u ys → numFrom v xs < numFrom v ys) → numFrom (y * 256 + a) xs < numFrom (y * 256 + b) ys
+    go (below l q) ih = numFrom-less xs ys (y * 256 + a) (y * 256 + b) (omega arith) (λ i. ba (suc i)) (omega (arith, ba 0))
+    go (same l q) ih = rw l (ih (x * 256 + b) (y * 256 + b) (rw l at h))
+    go (above l q) ih = let k = numFrom-less ys xs (x * 256 + b) (x * 256 + a) (omega arith) (λ i. bb (suc i)) (omega (arith, bb 0)) in absurd (omega arith)
+
+bytes-take : (w : ℕ) (s : List ℕ) → Bytes s → Bytes (take w s)
+bytes-take zero s b k = omega arith
+bytes-take (suc w) [] b k = b k
+bytes-take (suc w) (x ∷ s) b zero = b 0
+bytes-take (suc w) (x ∷ s) b (suc k) = bytes-take w s (λ i. b (suc i)) k
+
+bytes-drop : (i : ℕ) (s : List ℕ) → Bytes s → Bytes (drop i s)
+bytes-drop i s b k = rw getD-drop (b (i + k))
+
 -- a and b agree in their first i bytes, whose number is the front
 pub record Agree (a b : List ℕ) (i : ℕ) : Type 0 where
   pub front : ℕ
@@ -92,20 +114,32 @@ pub agree-sym : {a b : List ℕ} {i : ℕ} → Agree a b i → Agree b a i
 agree-sym g = record { front = g .front; left = g .right; right = g .left }
 
 module _ {a b : List ℕ} {i : ℕ} (g : Agree a b i) (e : length a ≡ length b) where
-  -- one byte more of each is read
-  split : i < length a → (num a ≡ numFrom (g .front * 256 + getD a i 0) (drop (i + 1) a)) × (num b ≡ numFrom (g .front * 256 + getD b i 0) (drop (i + 1) b))
-  unfolding numFrom
-  split h =
-      let hb : i < length b = omega arith in
-      (rw add-one (g .left ∙ ap (numFrom (g .front)) (drop-cons a i 0 h)), rw add-one (g .right ∙ ap (numFrom (g .front)) (drop-cons b i 0 hb)))
+  -- w bytes more are read
+  split : (w : ℕ) (s : List ℕ) → num s ≡ numFrom (g .front) (drop i s) → num s ≡ numFrom (numFrom (g .front) (take w (drop i s))) (drop (i + w) s)
+  split w s q =
+      q ∙ ap (numFrom (g .front)) (sym (take-append-drop w (drop i s))) ∙ numFrom-append (take w (drop i s)) (drop w (drop i s)) (g .front)
+      ∙ ap (numFrom (numFrom (g .front) (take w (drop i s)))) (drop-drop w i s)
 
-  pub agree-next : i < length a → getD a i 0 ≡ getD b i 0 → Agree a b (i + 1)
-  agree-next h q = record { front = g .front * 256 + getD a i 0; left = split h .0; right = rw q (split h .1) }
+  module _ (w : ℕ) (h : i + w ≤ length a) (ba : Bytes a) (bb : Bytes b) where
+    -- as many bytes are left of both
+    left-a : w ≤ length (drop i a)
+    left-a = omega (arith, length-drop i a)
 
-  pub agree-less : i < length a → Bytes a → getD a i 0 < getD b i 0 → num a < num b
-  agree-less h ba l =
-      rw (split h .0, split h .1)
-      (numFrom-less (drop (i + 1) a) (drop (i + 1) b) _ _ (simp (length-drop, e)) (λ k. rw getD-drop (ba (i + 1 + k))) (omega arith))
+    left-b : w ≤ length (drop i b)
+    left-b = omega (arith, length-drop i b)
+
+    pub agree-next : num (take w (drop i a)) ≡ num (take w (drop i b)) → Agree a b (i + w)
+    agree-next q =
+        let same : take w (drop i a) ≡ take w (drop i b) = sym (write-back w (drop i a) left-a (bytes-drop i a ba)) ∙ ap (beBytes w) q ∙ write-back w (drop i b) left-b (bytes-drop i b bb) in
+        record { front = numFrom (g .front) (take w (drop i a)); left = split w a (g .left); right = rw same (split w b (g .right)) }
+
+    pub agree-less : num (take w (drop i a)) < num (take w (drop i b)) → num a < num b
+    unfolding num
+    agree-less l =
+        let parts : length (take w (drop i a)) ≡ length (take w (drop i b)) = length-take-le w (drop i a) left-a ∙ sym (length-take-le w (drop i b) left-b) in
+        let front = front-any (take w (drop i a)) (take w (drop i b)) 0 (g .front) parts (bytes-take w (drop i a) (bytes-drop i a ba)) (bytes-take w (drop i b) (bytes-drop i b bb)) l in
+        rw (split w a (g .left), split w b (g .right))
+        (numFrom-less (drop (i + w) a) (drop (i + w) b) _ _ (simp (length-drop, e)) (bytes-drop (i + w) a ba) front)
 
   pub agree-end : length a ≤ i → num a ≡ num b
   unfolding numFrom

@@ -9,10 +9,15 @@ use lib.ListN.{length, take, getD}
 use lib.Seq.{take-suc}
 use Rattle.words.specs.Bytes.{num, numFrom, beBytes, Bytes}
 
+-- bytes after bytes
+pub numFrom-append : (a b : List ℕ) (x : ℕ) → numFrom x (a ++ b) ≡ numFrom (numFrom x a) b
+unfolding numFrom
+numFrom-append [] b x = refl
+numFrom-append (y ∷ a) b x = numFrom-append a b (x * 256 + y)
+
 one-more : (acc : ℕ) (xs : List ℕ) (y : ℕ) → numFrom acc (xs ++ (y ∷ [])) ≡ numFrom acc xs * 256 + y
 unfolding numFrom
-one-more acc [] y = refl
-one-more acc (x ∷ xs) y = one-more (acc * 256 + x) xs y
+one-more acc xs y = numFrom-append xs (y ∷ []) acc
 
 -- the low bytes of a number, read back
 pub read-back : (w v : ℕ) → num (beBytes w v) ≡ v % 256 ^ w

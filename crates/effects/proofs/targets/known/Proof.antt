@@ -1,24 +1,23 @@
--- `effects::targets::known` meets its contract: the records before `at` decide; of the target the first i bytes agree. Assumes nothing.
+-- `effects::targets::known` meets its contract: the records before `at` decide; of the target the bytes from i on agree. Assumes nothing.
 use mathlib.Core.Path.{_≡_, refl, sym, _∙_}
 use mathlib.Core.Bool.{Bool, true, false}
 use Prim.Native.Nat.{ℕ, _+_, _-_, _≤_, _<_}
 use native.Mathlib.Omega.{arith}
 use lib.ListN.{length, getD}
-use borrow.Author.Count.{below-more}
 use borrow.Author.Needs.{needs}
 use borrow.Author.Tests.{not-true, not-false}
 use Rattle.effects.specs.Targets.{Target, knownIn}
 use Rattle.effects.specs.Trailers.{alikeOf}
 use Rattle.effects.specs.WalkLaws.{Walked, walk-start, walk-turn, walk-stop, walk-end}
-use Rattle.effects.specs.TargetLaws.{hits, alike-within, known-told, all-same, one-differs}
+use Rattle.effects.specs.TargetLaws.{hits, alike-within, known-told, one-more, all-same, one-differs}
 use Rattle.effects.proofs.targets.known.Statement.{statement}
 use Rattle.effects.proofs.targets.known.Tie as tie
 
 abbrev Inv-loop : tie.InvT-loop
-Inv-loop log end kind target at i₀ i = (i ≤ length target) × ((k : ℕ) → k < i → getD log (at + k) 0 ≡ getD target k 0)
+Inv-loop log end kind target at i₀ i = (i ≤ length target) × ((k : ℕ) → i ≤ k → k < length target → getD log (at + k) 0 ≡ getD target k 0)
 
 abbrev μ-loop : tie.MeasureT-loop
-μ-loop log end kind target at i₀ i = length target - i
+μ-loop log end kind target at i₀ i = i
 
 abbrev Inv-walk : tie.InvT-walk
 Inv-walk log end kind target at₀ at = (at ≤ end) × Walked (knownIn (record { kind = kind; bytes = target })) (λ (b : Bool). b) log end at
@@ -73,7 +72,10 @@ walk-again : tie.Need-walk-again Inv-loop μ-loop Inv-walk μ-walk
 walk-again c = on (c .before .before) (rw (sym (c .before .alike .ensures) ∙ not-true _ (c .if2 .taken)))
 
 loop-holds : tie.Need-loop-holds Inv-loop μ-loop Inv-walk μ-walk
-loop-holds c = (omega arith, λ k h. absurd (omega arith))
+loop-holds c = (omega arith, λ k h l. absurd (omega arith))
+
+sub-i : tie.Need-sub-i Inv-loop μ-loop Inv-walk μ-walk
+sub-i c = omega arith
 
 add-if4 : tie.Need-add-if4 Inv-loop μ-loop Inv-walk μ-walk
 add-if4 c = omega (arith, room (c .before .before))
@@ -94,16 +96,16 @@ walk-again-2 c =
     let l = c .before .before .before .before in
     let d = l .before in
     let b = d .before .before in
-    on b (rw (alike d) (one-differs (S b .args .log .now) (goal b .bytes) (b .behind .result .from) (room d) (l .loop .i) (omega arith) (c .if4 .taken)))
-
-add-i : tie.Need-add-i Inv-loop μ-loop Inv-walk μ-walk
-add-i c = omega arith
+    on b (rw (alike d) (one-differs (S b .args .log .now) (goal b .bytes) (b .behind .result .from) (room d) (l .loop .i - 1) (omega arith) (c .if4 .taken)))
 
 loop-less : tie.Need-loop-less Inv-loop μ-loop Inv-walk μ-walk
 loop-less c = omega arith
 
 loop-again : tie.Need-loop-again Inv-loop μ-loop Inv-walk μ-walk
-loop-again c = let l = c .before .before .before .before .loop in (omega arith, below-more _ _ (l .inv .1) (c .if4 .left))
+loop-again c =
+    let l = c .before .before .before .before in
+    let b = l .before .before .before in
+    (omega arith, one-more (S b .args .log .now) (goal b .bytes) (b .behind .result .from) (l .loop .i) (l .loop .inv .1) (c .if4 .left))
 
 returns : tie.Need-returns Inv-loop μ-loop Inv-walk μ-walk
 unfolding knownIn
@@ -114,7 +116,7 @@ returns-2 c =
     let l = c .before in
     let d = l .before in
     let b = d .before .before in
-    let full : hit b ≡ true = rw (alike d) (all-same (S b .args .log .now) (goal b .bytes) (b .behind .result .from) (room d) (λ k h. l .loop .inv .1 k (omega arith))) in
+    let full : hit b ≡ true = rw (alike d) (all-same (S b .args .log .now) (goal b .bytes) (b .behind .result .from) (room d) (λ k h. l .loop .inv .1 k (omega arith) h)) in
     walk-stop (b .before .before .walk .inv .1) (omega arith) (omega arith) (b .behind .result) (b .behind .ensures) true
     (λ e es k. known-told (goal b) (S b .args .log .now) (b .behind .result) e es k ∙ rw full)
 
@@ -132,12 +134,12 @@ known-spec =
     walk-less
     walk-again
     loop-holds
+    sub-i
     add-if4
     shared-slice-read-if4
     shared-slice-read-if4-2
     walk-less-2
     walk-again-2
-    add-i
     loop-less
     loop-again
     returns

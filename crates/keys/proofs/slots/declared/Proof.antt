@@ -28,7 +28,9 @@ slice-aggregate-compare-2 : tie.Need-slice-aggregate-compare-2
 slice-aggregate-compare-2 c = search needs
 
 compare-requires : tie.Need-compare-requires
-compare-requires c κs = length-take-le 24 (c .before .before .before .before .args .key .now) (omega arith)
+compare-requires c κs =
+    let l = length-take-le 24 (c .before .before .before .before .args .key .now) (omega arith) in
+    (l, omega (arith, l))
 
 enum-told : tie.Need-enum-told
 enum-told c = search needs

@@ -87,7 +87,7 @@ part-compare-end-2 : tie.Need-part-compare-end-2 Inv-loop μ-loop
 part-compare-end-2 c = omega (arith, ends (c .before))
 
 compare-requires : tie.Need-compare-requires Inv-loop μ-loop
-compare-requires c κs = omega (arith, ends (c .before .before))
+compare-requires c κs = (omega (arith, ends (c .before .before)), omega (arith, ends (c .before .before)))
 
 enum-told : tie.Need-enum-told Inv-loop μ-loop
 enum-told c = search needs

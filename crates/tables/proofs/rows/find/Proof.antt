@@ -76,7 +76,7 @@ part-compare-end : tie.Need-part-compare-end Inv-loop μ-loop
 part-compare-end c = omega (arith, ends c)
 
 compare-requires : tie.Need-compare-requires Inv-loop μ-loop
-compare-requires c κs = omega arith
+compare-requires c κs = (omega arith, omega arith)
 
 enum-told : tie.Need-enum-told Inv-loop μ-loop
 enum-told c = search needs

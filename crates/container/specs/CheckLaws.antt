@@ -1,49 +1,47 @@
 -- The check of one entry, and a turn of the check of all. Assumes nothing.
 use mathlib.Core.Path.{_≡_, refl, sym, ap, _∙_}
 use mathlib.Core.Bool.{Bool, true, false}
-use mathlib.Core.List.{List, [], _∷_, _++_}
+use mathlib.Core.List.{List, [], _∷_}
 use mathlib.Core.Option.{Option, some, none}
-use Prim.Native.Nat.{ℕ, zero, suc, _+_, _-_, _≤_, _<_}
+use Prim.Native.Nat.{ℕ, suc, _-_, _≤_, _<_}
 use native.Mathlib.Omega.{arith}
-use native.Mathlib.Nat.{sub-zero}
-use native.Mathlib.Numerals.{add-one}
-use lib.Dec.{eqb, leb}
-use lib.ListN.{drop}
-use Rattle.words.specs.Choice.{pick, either}
+use lib.Dec.{leb}
+use lib.ListN.{length, drop, take, set, getD, length-set, length-drop, drop-of-length-le}
+use lib.Seq.{drop-cons, drop-set-lt, getD-set-same, take-all}
+use borrow.Author.Tests.{eq-eqb, ne-eqb}
+use Rattle.words.specs.Choice.{pick}
 use Rattle.words.specs.Lists.{member}
 use Rattle.container.specs.Container.{Entry}
-use Rattle.container.specs.Reader.{Parsed, short, read, andThen, entry, entries}
-use Rattle.container.specs.Entries.{placed, foundIn}
-use Rattle.container.specs.EntryTold.{both-read, EntryFound}
+use Rattle.container.specs.Reader.{short, read, entry, entries}
+use Rattle.container.specs.Entries.{placed}
+use Rattle.container.specs.EntryTold.{EntryFound}
 use Rattle.container.specs.EntriesLaws.{entries-more, no-more, entries-cons}
 use Rattle.container.specs.Starts.{marked}
 use Rattle.container.specs.Targets.{Holds}
 use Rattle.container.specs.Verify.{slotCount, entryRefusal, firstOf, entriesRefusal}
-use Rattle.container.specs.Checks.{checkOf, selectors, slotsOf, Answers}
+use Rattle.container.specs.Checks.{checkOf, slotsOf, Answers}
 use Rattle.container.specs.declared.entries.EntryLayout.{EntryLayout}
-use Rattle.container.specs.declared.offsets.Found.{Found}
-use Rattle.container.specs.declared.offsets.Found.the-variants as found
 use Rattle.container.specs.declared.verify.VerifyError.{VerifyError}
 use Rattle.container.specs.declared.verify.VerifyError.the-variants.{EntryOffsetMisaligned, DuplicateSelector, AccessListTooLarge}
 use Rattle.container.specs.declared.verify.Check.{Check}
 use Rattle.container.specs.declared.verify.Check.the-variants.{Passed, Failed}
 
+-- ---- a selector among those seen: what is left decides
+
+module _ (seen : List ℕ) (i x : ℕ) where
+  pub among-hit : i < length seen → getD seen i 0 ≡ x → member x (drop i seen) ≡ true
+  unfolding member
+  among-hit h e = rw (drop-cons seen i 0 h, eq-eqb (getD seen i 0) x e)
+
+  pub among-on : i < length seen → (getD seen i 0 ≡ x → ⊥) → member x (drop i seen) ≡ member x (drop (suc i) seen)
+  unfolding member
+  among-on h e = rw (drop-cons seen i 0 h, ne-eqb (getD seen i 0) x e)
+
+  pub among-end : length seen ≤ i → member x (drop i seen) ≡ false
+  unfolding member
+  among-end h = rw (drop-of-length-le seen h)
+
 -- ---- one entry
-
--- an entry is found by a selector where one has it
-abbrev pub isFound : Found → Bool
-isFound (found.At l) = true
-isFound found.Missing = false
-
-found-member : (k at : ℕ) (es : List Entry) → isFound (foundIn k at es) ≡ member k (selectors es)
-unfolding foundIn member selectors
-found-member k at [] = refl
-found-member k at (e ∷ es) = by (eqb (e .selector) k) (found-member k (placed at e .end) es)
-  where
-    by : (t : Bool) → isFound (foundIn k (placed at e .end) es) ≡ member k (selectors es) →
-        isFound (pick t (found.At (placed at e)) (foundIn k (placed at e .end) es)) ≡ either t (member k (selectors es))
-    by true h = refl
-    by false h = h
 
 -- what three tests decide
 abbrev pub checkBy : (known start few : Bool) → (selector : ℕ) → Check
@@ -58,58 +56,14 @@ check-by false true true k = refl
 check-by false true false k = refl
 check-by false false c k = refl
 
-entry-check : (first : ℕ) (es : List Entry) (map starts : List ℕ) (at : ℕ) (x : Entry) (l : EntryLayout) (f : Found) → Holds map starts →
-    l ≡ placed at x → f ≡ foundIn (l .selector) first es →
-    checkBy (isFound f) (marked map (l .offset)) (leb (slotsOf l) 4096) (l .selector) ≡ checkOf (entryRefusal (selectors es) starts x)
+pub by-tests : (map seen : List ℕ) (l : EntryLayout) (a b c : Bool) → member (l .selector) seen ≡ a → marked map (l .offset) ≡ b → leb (slotsOf l) 4096 ≡ c
+    → Answers map seen l (checkBy a b c (l .selector))
 unfolding entryRefusal slotCount placed
-entry-check first es map starts at x l f h e q =
-    rw (q, found-member (l .selector) first es, h .at (l .offset), e)
-    (sym (check-by (member (x .selector) (selectors es)) (member (x .offset) starts) (leb (slotCount x) 4096) (x .selector)))
-
-pub by-tests : (s map : List ℕ) (first i : ℕ) (l : EntryLayout) (f : Found) →
-    ((es : List Entry) (t : List ℕ) → entries i (drop first s) ≡ read es t → f ≡ foundIn (l .selector) first es) →
-    (a b c : Bool) → isFound f ≡ a → marked map (l .offset) ≡ b → leb (slotsOf l) 4096 ≡ c → Answers s map first i l (checkBy a b c (l .selector))
-by-tests s map first i l f q a b c p r u =
-    λ es t starts at x k m e. rw (← p, ← r, ← u) (entry-check first es map starts at x l f m e (q es t k))
+by-tests map seen l a b c p r u =
+    λ starts at x h e. rw (← p, ← r, ← u, h .at (l .offset), e)
+    (sym (check-by (member (x .selector) seen) (member (x .offset) starts) (leb (slotCount x) 4096) (x .selector)))
 
 -- ---- entries in order
-
--- what was seen counts as a set
-same-seen : (seen other starts : List ℕ) (es : List Entry) → ((k : ℕ) → member k seen ≡ member k other) → entriesRefusal seen starts es ≡ entriesRefusal other starts es
-unfolding entriesRefusal entryRefusal member
-same-seen seen other starts [] h = refl
-same-seen seen other starts (e ∷ es) h =
-    rw (h (e .selector), same-seen (e .selector ∷ seen) (e .selector ∷ other) starts es (λ k. ap (either (eqb (e .selector) k)) (h k)))
-
-member-last : (k : ℕ) (es : List Entry) (e : Entry) → member k (e .selector ∷ selectors es) ≡ member k (selectors (es ++ (e ∷ [])))
-unfolding member selectors
-member-last k [] e = refl
-member-last k (x ∷ es) e = swap (eqb (e .selector) k) (eqb (x .selector) k) (member k (selectors es)) ∙ ap (either (eqb (x .selector) k)) (member-last k es e)
-  where
-    swap : (a b c : Bool) → either a (either b c) ≡ either b (either a c)
-    swap true true c = refl
-    swap true false c = refl
-    swap false true c = refl
-    swap false false c = refl
-
--- one entry more
-entries-last : (n : ℕ) (u : List ℕ) (es : List Entry) (v : List ℕ) (e : Entry) (w : List ℕ) → entries n u ≡ read es v → entry v ≡ read e w →
-    entries (suc n) u ≡ read (es ++ (e ∷ [])) w
-unfolding entries
-entries-last zero u es v e w h k =
-    let a : [] ≡ es = cc in
-    let b : v ≡ u = cc in
-    rw (← a, ← b, k)
-entries-last (suc n) u es v e w h k =
-    let x = both-read (entry u) _ es v h in
-    let y = both-read (entries n (x .rest)) _ es v (x .then) in
-    let z = y .then in
-    let a : es ≡ x .first ∷ y .first = cc in
-    let b : y .rest ≡ v = cc in
-    let r = entries-last n (x .rest) (y .first) v e w (y .is ∙ ap (read (y .first)) b) k in
-    ap (λ (p : Parsed Entry). andThen p (λ e' t'. andThen (entries (suc n) t') (λ es' u'. read (e' ∷ es') u'))) (x .is)
-    ∙ ap (λ (p : Parsed (List Entry)). andThen p (λ es' u'. read (x .first ∷ es') u')) r
-    ∙ ap (λ (l : List Entry). read (l ++ (e ∷ [])) w) (sym a)
 
 passed : (o : Option VerifyError) → Passed ≡ checkOf o → o ≡ none
 unfolding checkOf
@@ -121,70 +75,70 @@ unfolding checkOf
 failed none e h = absurd (let z : _≡_ {A = ℕ} 0 1 = cc in omega arith)
 failed (some x) e h = let k : x ≡ e = cc in rw k
 
--- the entries seen, those ahead, and that the latter decide
-pub record Between (s : List ℕ) (first n : ℕ) (es : List Entry) (t starts : List ℕ) (i at : ℕ) : Type 0 where
-  pub seen : List Entry
+-- the entries ahead, and that they decide after the selectors seen
+pub record Between (s : List ℕ) (es : List Entry) (t starts : List ℕ) (more at : ℕ) (seen : List ℕ) : Type 0 where
   pub ahead : List Entry
-  pub before : entries i (drop first s) ≡ read seen (drop at s)
-  pub after : entries (n - i) (drop at s) ≡ read ahead t
-  pub decides : entriesRefusal [] starts es ≡ entriesRefusal (selectors seen) starts ahead
+  pub after : entries more (drop at s) ≡ read ahead t
+  pub decides : entriesRefusal [] starts es ≡ entriesRefusal seen starts ahead
 
-pub record Checking (s map : List ℕ) (first n i at : ℕ) : Type 0 where
-  pub left : (es : List Entry) (t starts : List ℕ) → entries n (drop first s) ≡ read es t → Holds map starts → Between s first n es t starts i at
+pub record Checking (s map : List ℕ) (first n more at : ℕ) (seen : List ℕ) : Type 0 where
+  pub left : (es : List Entry) (t starts : List ℕ) → entries n (drop first s) ≡ read es t → Holds map starts → Between s es t starts more at seen
 
-pub check-begins : (s map : List ℕ) (first n : ℕ) → Checking s map first n 0 first
-unfolding entries selectors
-check-begins s map first n = record { left = λ es t starts k m. record { seen = []; ahead = es; before = refl; after = rw sub-zero k; decides = refl } }
+pub check-begins : (s map : List ℕ) (first n : ℕ) (seen : List ℕ) → seen ≡ [] → Checking s map first n n first seen
+check-begins s map first n seen e = rw e (record { left = λ es t starts k m. record { ahead = es; after = k; decides = refl } })
 
-module _ (s map : List ℕ) (first n i at : ℕ) (c : Checking s map first n i at) where
+module _ (s map : List ℕ) (first n more at : ℕ) (seen : List ℕ) (c : Checking s map first n more at seen) where
   module _ (es : List Entry) (t starts : List ℕ) (k : entries n (drop first s) ≡ read es t) (m : Holds map starts) where
-    pub all-checked : n ≤ i → Passed ≡ checkOf (entriesRefusal [] starts es)
+    pub all-checked : more ≤ 0 → Passed ≡ checkOf (entriesRefusal [] starts es)
     unfolding checkOf entriesRefusal
     all-checked h =
         let x = c .left es t starts k m in
         let e = x .after in
-        let f = no-more (n - i) (drop at s) (omega arith) in
+        let f = no-more more (drop at s) h in
         let a : x .ahead ≡ [] = cc in
         rw (x .decides, a)
 
-    pub none-short : i < n → entry (drop at s) ≡ short → ⊥
+    pub none-short : 0 < more → entry (drop at s) ≡ short → ⊥
     none-short h e =
         let x = c .left es t starts k m in
-        let a : short ≡ read (x .ahead) t = sym (rw e at (entries-more (n - i) (drop at s) (omega arith))) ∙ x .after in
+        let a : short ≡ read (x .ahead) t = sym (rw e at (entries-more more (drop at s) h)) ∙ x .after in
         let z : _≡_ {A = ℕ} 0 1 = cc in
         omega arith
 
-  module _ (h : i < n) (l : EntryLayout) (f : EntryFound s at l) (r : Check) (a : Answers s map first i l r) where
-    answer : (es : List Entry) (t starts : List ℕ) → Holds map starts → (x : Between s first n es t starts i at) → r ≡ checkOf (entryRefusal (selectors (x .seen)) starts (f .found))
-    answer es t starts m x = a (x .seen) (drop at s) starts at (f .found) (x .before) m (f .layout)
+  module _ (h : 0 < more) (l : EntryLayout) (f : EntryFound s at l) (r : Check) (a : Answers map seen l r) where
+    answer : (starts : List ℕ) → Holds map starts → r ≡ checkOf (entryRefusal seen starts (f .found))
+    answer starts m = a starts at (f .found) m (f .layout)
 
     pub check-failed : (e : VerifyError) → r ≡ Failed e → (es : List Entry) (t starts : List ℕ) → entries n (drop first s) ≡ read es t → Holds map starts →
         Failed e ≡ checkOf (entriesRefusal [] starts es)
     unfolding checkOf entriesRefusal firstOf
     check-failed e q es t starts k m =
         let x = c .left es t starts k m in
-        let y = entries-cons s (n - i) at l f (x .ahead) t (omega arith) (x .after) in
-        rw (x .decides, y .is, failed (entryRefusal (selectors (x .seen)) starts (f .found)) e (sym q ∙ answer es t starts m x))
+        let y = entries-cons s more at l f (x .ahead) t h (x .after) in
+        rw (x .decides, y .is, failed (entryRefusal seen starts (f .found)) e (sym q ∙ answer starts m))
 
-    passes : r ≡ Passed → (es : List Entry) (t starts : List ℕ) → Holds map starts → (x : Between s first n es t starts i at) → (tail : List Entry) → x .ahead ≡ f .found ∷ tail →
-        entriesRefusal [] starts es ≡ entriesRefusal (selectors (x .seen ++ (f .found ∷ []))) starts tail
-    unfolding entriesRefusal firstOf
-    passes q es t starts m x tail e =
-        x .decides ∙ ap (entriesRefusal (selectors (x .seen)) starts) e
-        ∙ rw (passed (entryRefusal (selectors (x .seen)) starts (f .found)) (sym q ∙ answer es t starts m x))
-        (same-seen (f .found .selector ∷ selectors (x .seen)) (selectors (x .seen ++ (f .found ∷ []))) starts tail (λ k. member-last k (x .seen) (f .found)))
+    pub check-on : r ≡ Passed → (known : List ℕ) → known ≡ l .selector ∷ seen → Checking s map first n (more - 1) (l .end) known
+    unfolding entriesRefusal firstOf placed
+    check-on q known is = record {
+      left = λ es t starts k m.
+          let x = c .left es t starts k m in
+          let y = entries-cons s more at l f (x .ahead) t h (x .after) in
+          let now-seen : known ≡ f .found .selector ∷ seen = is ∙ ap (λ (o : EntryLayout). o .selector ∷ seen) (f .layout) in
+          record {
+            ahead = y .tail;
+            after = y .others;
+            decides = x .decides ∙ ap (entriesRefusal seen starts) (y .is)
+                ∙ rw (passed (entryRefusal seen starts (f .found)) (sym q ∙ answer starts m)) (ap (λ (o : List ℕ). entriesRefusal o starts (y .tail)) (sym now-seen));
+          };
+    }
 
-    pub check-on : r ≡ Passed → Checking s map first n (i + 1) (l .end)
-    check-on q = record { left = λ es t starts k m. by es t starts m (c .left es t starts k m) }
-      where
-        by : (es : List Entry) (t starts : List ℕ) → Holds map starts → Between s first n es t starts i at → Between s first n es t starts (i + 1) (l .end)
-        by es t starts m x =
-            let y = entries-cons s (n - i) at l f (x .ahead) t (omega arith) (x .after) in
-            let less : n - (i + 1) ≡ n - i - 1 = omega arith in
-            record {
-              seen = x .seen ++ (f .found ∷ []);
-              ahead = y .tail;
-              before = rw add-one (entries-last i (drop first s) (x .seen) (drop at s) (f .found) (drop (l .end) s) (x .before) (f .is));
-              after = rw less (y .others);
-              decides = passes q es t starts m x (y .tail) (y .is);
-            }
+-- one selector more, before those that stand at the end of an array
+pub seen-more : (l : List ℕ) (free x : ℕ) → 0 < free → free ≤ length l → drop (free - 1) (set l (free - 1) x) ≡ x ∷ drop free l
+seen-more l free x h k =
+    let z : suc (free - 1) ≡ free = omega arith in
+    drop-cons (set l (free - 1) x) (free - 1) 0 (omega (arith, length-set l (free - 1) x))
+    ∙ rw (z, getD-set-same l (free - 1) x 0 (omega arith), drop-set-lt free l (free - 1) x (omega arith))
+
+-- a part that goes to the end is what is left
+pub seen-part : (l : List ℕ) (n free : ℕ) → length l ≡ n → take (n - free) (drop free l) ≡ drop free l
+seen-part l n free e = take-all (n - free) (drop free l) (omega (arith, length-drop free l))

@@ -1,6 +1,6 @@
 -- The checks that verify makes, as answers of the code.
 use mathlib.Core.Path.{_≡_}
-use mathlib.Core.List.{List, [], _∷_}
+use mathlib.Core.List.{List, []}
 use mathlib.Core.Option.{Option, some, none}
 use Prim.Native.Nat.{ℕ, _+_}
 use lib.ListN.{drop}
@@ -19,20 +19,13 @@ unfoldable pub checkOf : Option VerifyError → Check
 checkOf none = Passed
 checkOf (some e) = Failed e
 
--- the selectors of entries
-unfoldable pub selectors : List Entry → List ℕ
-selectors [] = []
-selectors (e ∷ es) = e .selector ∷ selectors es
-
 -- all slots of an entry that was read
 abbrev pub slotsOf : EntryLayout → ℕ
 slotsOf l = l .reads .count + l .writes .count + l .«keyed_reads» .count + l .«keyed_writes» .count
 
--- what an entry's check answers, for the entries before it
-abbrev pub Answers : (s map : List ℕ) (first i : ℕ) → EntryLayout → Check → Type 0
-Answers s map first i l r =
-    (es : List Entry) (t starts : List ℕ) (at : ℕ) (x : Entry) → entries i (drop first s) ≡ read es t → Holds map starts → l ≡ placed at x →
-    r ≡ checkOf (entryRefusal (selectors es) starts x)
+-- what an entry's check answers, after the selectors seen
+abbrev pub Answers : (map seen : List ℕ) → EntryLayout → Check → Type 0
+Answers map seen l r = (starts : List ℕ) (at : ℕ) (x : Entry) → Holds map starts → l ≡ placed at x → r ≡ checkOf (entryRefusal seen starts x)
 
 -- a container's code and layout, and its entries in the bytes
 pub record LaidOut (s bytes : List ℕ) (l : Layout) (c : Container) : Type 0 where

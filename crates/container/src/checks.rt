@@ -1,9 +1,10 @@
 // The entries of a container, checked in order.
 ghost use mathlib.Core.Path.{_≡_};
 ghost use mathlib.Core.List.{List, []};
-ghost use Prim.Native.Nat.{ℕ};
+ghost use Prim.Native.Nat.{ℕ, _≤_};
 ghost use lib.Dec.{leb};
 ghost use lib.ListN.{drop};
+ghost use Rattle.words.specs.Lists.{member};
 ghost use Rattle.container.specs.Container.{Entry};
 ghost use Rattle.container.specs.Reader.{read, entries};
 ghost use Rattle.container.specs.Verify.{entriesRefusal};
@@ -11,7 +12,6 @@ ghost use Rattle.container.specs.Targets.{Holds};
 ghost use Rattle.container.specs.Checks.{checkOf, slotsOf, Answers};
 use super::entries::EntryLayout;
 use super::entries::EntryRead;
-use super::offsets::Found;
 use super::verify::Check;
 use super::verify::VerifyError;
 
@@ -38,12 +38,26 @@ pub fn few(e: EntryLayout) -> bool
     r + w + kr + kw <= 4096
 }
 
-// Entry i, which has i before it: a new selector, an offset that is a start, few slots.
-fn check_entry(s: &[u8], map: &[u8], first: usize, i: usize, e: EntryLayout) -> Check
-    ensures { λ r. ⌜ Answers (now (s .entry)) (now (map .entry)) first i e r ⌝ }
+// Whether a selector is among those seen.
+fn among(seen: &[u64], selector: u64) -> bool
+    ensures { λ r. ⌜ r ≡ member selector (now (seen .entry)) ⌝ }
+{
+    let mut i = 0;
+    while i < seen.len() {
+        if seen[i] == selector {
+            return true;
+        }
+        i += 1;
+    }
+    false
+}
+
+// An entry after those whose selectors were seen: a new selector, an offset that is a start, few slots.
+fn check_entry(map: &[u8], seen: &[u64], e: EntryLayout) -> Check
+    ensures { λ r. ⌜ Answers (now (map .entry)) (now (seen .entry)) e r ⌝ }
 {
     let selector = e.selector;
-    if let Found::At(_) = super::offsets::find(s, first, i, selector) {
+    if among(seen, selector) {
         return Check::Failed(VerifyError::DuplicateSelector(selector));
     }
     if !super::marks::is_start(map, e.offset) {
@@ -55,21 +69,26 @@ fn check_entry(s: &[u8], map: &[u8], first: usize, i: usize, e: EntryLayout) -> 
     Check::Passed
 }
 
-// The n entries from a place on, against a map of the starts.
+// The n entries from a place on, against a map of the starts. Selectors seen stand at the array's end, the last one first.
 pub fn check_entries(s: &[u8], map: &[u8], first: usize, n: usize) -> Check
+    requires { ⌜ n ≤ 256 ⌝ }
     ensures { λ r. ⌜ ((es : List Entry) (t starts : List ℕ) → entries n (drop first (now (s .entry))) ≡ read es t → Holds (now (map .entry)) starts → r ≡ checkOf (entriesRefusal [] starts es)) ⌝ }
 {
+    let mut seen = [0u64; 256];
+    let mut free = 256;
     let mut at = first;
-    let mut i = 0;
-    while i < n {
+    let mut more = n;
+    while 0 < more {
         let EntryRead::Done(e) = super::entries::entry_at(s, at) else {
             return Check::Passed;
         };
-        if let Check::Failed(x) = check_entry(s, map, first, i, e) {
+        if let Check::Failed(x) = check_entry(map, &seen[free..], e) {
             return Check::Failed(x);
         }
+        free -= 1;
+        seen[free] = e.selector;
         at = e.end;
-        i += 1;
+        more -= 1;
     }
     Check::Passed
 }

@@ -78,6 +78,7 @@ impl VerifyError {
 
 // Targets, then entries, against a map of the starts.
 fn check_rest(s: &[u8], code: &[u8], map: &[u8], l: Layout) -> Check
+    requires { ⌜ l .entries ≤ 256 ⌝ }
     ensures { λ r. ⌜ ((c : Container) (starts : List ℕ) → LaidOut (now (s .entry)) (now (code .entry)) l c → Holds (now (map .entry)) starts → r ≡ checkOf (codeRefusal Whole starts c)) ⌝ }
 {
     if let Stands::No(t) = super::targets::targets(code, map) {
@@ -88,6 +89,7 @@ fn check_rest(s: &[u8], code: &[u8], map: &[u8], l: Layout) -> Check
 
 // The code, whose starts a map of 65536 bits holds; then the rest.
 fn check_code(s: &[u8], code: &[u8], l: Layout) -> Check
+    requires { ⌜ l .entries ≤ 256 ⌝ }
     ensures { λ r. ⌜ ((c : Container) → LaidOut (now (s .entry)) (now (code .entry)) l c → length (c .code) ≤ 65536 →
         r ≡ checkOf (codeRefusal (walkOf (c .code) (length (c .consts)) .end) (walkOf (c .code) (length (c .consts)) .starts) c)) ⌝ }
 {

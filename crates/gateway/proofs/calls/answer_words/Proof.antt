@@ -10,7 +10,7 @@ unfolding answerWords
 returns c = refl
 
 pub answer-words-spec : {M : Type 1} → statement M
-answer-words-spec = 
+answer-words-spec =
     tie.close
     (tie.spec
     (λ c. search needs)

@@ -1,5 +1,8 @@
 //! Our library and the QVM Rust on the same calls, in one process: medians in microseconds of processor time, and ours over the Rust's.
 
+#[path = "../oracle/demo.rs"]
+#[allow(dead_code)]
+mod demo;
 #[path = "../oracle/input.rs"]
 #[allow(dead_code)]
 mod input;
@@ -20,7 +23,7 @@ mod reader;
 
 mod cases;
 
-use judge::Call;
+use judge::{rows, Call};
 use ours::Lent;
 use qvm::container::Container;
 use qvm::crypto::lend_replies;
@@ -69,10 +72,12 @@ fn ours(call: &Call, lent: &mut Lent) -> (Duration, u64) {
     (time, lent.answer[USED])
 }
 
-/// The same by the Rust; its container is read before.
+/// The same by the Rust; its container and its store are read before.
 fn rust(call: &Call, container: &Container) -> (Duration, u64) {
     lend_replies(&call.replies);
-    let run = || Interpreter::for_entry(black_box(container), call.selector, call.limit).unwrap().with_memory(&call.preload).run();
+    let store = rows(&call.store);
+    let open = || Interpreter::for_entry(black_box(container), call.selector, call.limit).unwrap();
+    let run = || open().with_storage(store).with_memory(&call.preload).run();
     let (time, outcome) = timed(run);
     (time, outcome.unwrap().meter_used)
 }

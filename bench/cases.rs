@@ -1,5 +1,6 @@
 //! What is measured: calls by name, each with its program.
 
+use crate::demo;
 use crate::judge::{Call, BUFFERS, FIXED};
 use crate::programs::{assembled, ldi, three};
 use qvm::container::{Container, Entry, StateAccess};
@@ -104,6 +105,12 @@ fn hashes(keys: usize) -> Call {
     Call { replies: reply.repeat(keys), preload, sizes: rooms(keys), ..call(code, access) }
 }
 
+/// The demo's call, over tables and a log as small as it needs.
+fn bill() -> Call {
+    let files = ["demo/container.bin", "demo/store.bin", "demo/call.bin"];
+    Call { sizes: rooms(32), ..demo::call(&files).unwrap() }
+}
+
 pub fn all() -> Vec<(&'static str, Call)> {
     vec![
         ("arithmetic, 120000 instructions", arithmetic()),
@@ -122,6 +129,7 @@ pub fn all() -> Vec<(&'static str, Call)> {
         ("100 Sends, as many targets", sends(100)),
         ("4000 Sends", sends(4000)),
         ("1000 Emits of 32 bytes", posts(1000, OpCode::Emit)),
+        ("the demo's bill", bill()),
     ]
 }
 

@@ -55,10 +55,14 @@ fn ended(word: &str, (number, argument): Refusal, fetches: u64) -> Vec<String> {
     vec![format!("{word} {number} {name:?} {argument}"), format!("fetches {fetches}")]
 }
 
+/// The call that settle's three files hold.
+pub fn call<Path: AsRef<str>>([container, store, file]: &[Path; 3]) -> io::Result<Call> {
+    let (container, store, file) = (fs::read(container.as_ref())?, fs::read(store.as_ref())?, fs::read(file.as_ref())?);
+    Ok(parts(container, store, &file).expect("the call is cut short"))
+}
+
 pub fn report(files: &[String]) -> io::Result<String> {
-    let [container, store, file] = files else { panic!("demo takes three files") };
-    let (container, store, file) = (fs::read(container)?, fs::read(store)?, fs::read(file)?);
-    let call = parts(container, store, &file).expect("the call is cut short");
+    let call = call(files.try_into().expect("demo takes three files"))?;
     let lines = match run(&call) {
         End::Refused(refusal) => ended("refused", refusal, 0),
         End::Faulted(refusal, fetches) => ended("faulted", refusal, fetches),

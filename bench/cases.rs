@@ -85,6 +85,13 @@ fn stores(keys: u64) -> Call {
     Call { sizes: rooms(keys as usize), ..call(counting(keys, &[], &[Instr::SStore { a: 0, b: ONE }]), access) }
 }
 
+/// The same, each key below the one before it: every row is moved.
+fn falling(keys: u64) -> Call {
+    let access = StateAccess { writes: (1..=keys).collect(), ..Default::default() };
+    let code = repeated(keys, &[ldi(1, 24)], &[Instr::MStore { a: 1, b: COUNTER }, Instr::SStore { a: 0, b: ONE }]);
+    Call { sizes: rooms(keys as usize), ..call(assembled(&code), access) }
+}
+
 /// A transfer to each of so many targets.
 fn sends(targets: u64) -> Call {
     posts(targets, OpCode::Send)
@@ -124,6 +131,7 @@ pub fn all() -> Vec<(&'static str, Call)> {
         ("100 keys", stores(100)),
         ("1000 keys", stores(1000)),
         ("4000 keys", stores(4000)),
+        ("4000 keys, falling", falling(4000)),
         ("Hash, 1000 keys authorised", hashes(1000)),
         ("1 Send", sends(1)),
         ("100 Sends, as many targets", sends(100)),

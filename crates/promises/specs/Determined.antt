@@ -18,6 +18,18 @@ use Rattle.isa.proofs.codec.decode.Kinds as decode-kinds
 use Rattle.isa.proofs.codec.decode.Reads as decode
 use Rattle.isa.proofs.codec.encode.Kinds as encode-kinds
 use Rattle.isa.proofs.codec.encode.Reads as encode
+use Rattle.isa.proofs.codec.read_byte.Kinds as read-byte-kinds
+use Rattle.isa.proofs.codec.read_byte.Reads as read-byte
+use Rattle.isa.proofs.codec.read_reg.Kinds as read-reg-kinds
+use Rattle.isa.proofs.codec.read_reg.Reads as read-reg
+use Rattle.isa.proofs.codec.DecodeError.number.Kinds as decode-number-kinds
+use Rattle.isa.proofs.codec.DecodeError.number.Reads as decode-number
+use Rattle.isa.proofs.codec.DecodeError.argument.Kinds as decode-argument-kinds
+use Rattle.isa.proofs.codec.DecodeError.argument.Reads as decode-argument
+use Rattle.isa.proofs.codec.EncodeError.number.Kinds as encode-number-kinds
+use Rattle.isa.proofs.codec.EncodeError.number.Reads as encode-number
+use Rattle.isa.proofs.codec.EncodeError.argument.Kinds as encode-argument-kinds
+use Rattle.isa.proofs.codec.EncodeError.argument.Reads as encode-argument
 use Rattle.isa.proofs.cursor.byte_then_reg.Kinds as byte-then-reg-kinds
 use Rattle.isa.proofs.cursor.byte_then_reg.Reads as byte-then-reg
 use Rattle.meter.proofs.hash_variable.Kinds as hash-variable-kinds
@@ -36,6 +48,8 @@ use Rattle.state.proofs.regs.RegFile.reg.Kinds as regs-reg-kinds
 use Rattle.state.proofs.regs.RegFile.reg.Reads as regs-reg
 use Rattle.state.proofs.regs.RegFile.set_reg.Kinds as set-reg-kinds
 use Rattle.state.proofs.regs.RegFile.set_reg.Reads as set-reg
+use Rattle.state.proofs.regs.RegFile.set_wide.Kinds as set-wide-kinds
+use Rattle.state.proofs.regs.RegFile.set_wide.Reads as set-wide
 use Rattle.state.proofs.regs.RegFile.step.Kinds as regs-step-kinds
 use Rattle.state.proofs.regs.RegFile.step.Reads as regs-step
 use Rattle.state.proofs.memory.mem_region.Kinds as mem-region-kinds
@@ -48,12 +62,22 @@ use Rattle.state.proofs.memory.mem_write.Kinds as mem-write-kinds
 use Rattle.state.proofs.memory.mem_write.Reads as mem-write
 use Rattle.state.proofs.stack.push.Kinds as stack-push-kinds
 use Rattle.state.proofs.stack.push.Reads as stack-push
+use Rattle.state.proofs.bench.bench_by_value.Kinds as bench-by-value-kinds
+use Rattle.state.proofs.bench.bench_by_value.Reads as bench-by-value
 use Rattle.state.proofs.bench.bench_local.Kinds as bench-local-kinds
 use Rattle.state.proofs.bench.bench_local.Reads as bench-local
 use Rattle.container.proofs.reader.read.Kinds as container-read-kinds
 use Rattle.container.proofs.reader.read.Reads as container-read
 use Rattle.container.proofs.verify.verify.Kinds as verify-kinds
 use Rattle.container.proofs.verify.verify.Reads as verify
+use Rattle.container.proofs.reader.ReadError.number.Kinds as read-number-kinds
+use Rattle.container.proofs.reader.ReadError.number.Reads as read-number
+use Rattle.container.proofs.reader.ReadError.argument.Kinds as read-argument-kinds
+use Rattle.container.proofs.reader.ReadError.argument.Reads as read-argument
+use Rattle.container.proofs.verify.VerifyError.number.Kinds as verify-number-kinds
+use Rattle.container.proofs.verify.VerifyError.number.Reads as verify-number
+use Rattle.container.proofs.verify.VerifyError.argument.Kinds as verify-argument-kinds
+use Rattle.container.proofs.verify.VerifyError.argument.Reads as verify-argument
 use Rattle.container.proofs.offsets.entry_offset.Kinds as entry-offset-kinds
 use Rattle.container.proofs.offsets.entry_offset.Reads as entry-offset
 use Rattle.container.proofs.writer.write.Kinds as container-write-kinds
@@ -105,6 +129,24 @@ decode-determined κs a x y u v p q = (p ∙ sym q, refl)
 pub encode-determined : Determined _ encode-kinds.ps encode-kinds.r encode.Learnt
 encode-determined κs a x y u v p q = (p .0 ∙ sym (q .0), λ i. (tt, ((p .1 ∙ sym (q .1)) i, tt)))
 
+pub read-byte-determined : Determined _ read-byte-kinds.ps read-byte-kinds.r read-byte.Learnt
+read-byte-determined κs a x y u v p q = (p ∙ sym q, refl)
+
+pub read-reg-determined : Determined _ read-reg-kinds.ps read-reg-kinds.r read-reg.Learnt
+read-reg-determined κs a x y u v p q = (p ∙ sym q, refl)
+
+pub decode-number-determined : Determined _ decode-number-kinds.ps decode-number-kinds.r decode-number.Learnt
+decode-number-determined κs a x y u v p q = (p ∙ sym q, refl)
+
+pub decode-argument-determined : Determined _ decode-argument-kinds.ps decode-argument-kinds.r decode-argument.Learnt
+decode-argument-determined κs a x y u v p q = (p ∙ sym q, refl)
+
+pub encode-number-determined : Determined _ encode-number-kinds.ps encode-number-kinds.r encode-number.Learnt
+encode-number-determined κs a x y u v p q = (p ∙ sym q, refl)
+
+pub encode-argument-determined : Determined _ encode-argument-kinds.ps encode-argument-kinds.r encode-argument.Learnt
+encode-argument-determined κs a x y u v p q = (p ∙ sym q, refl)
+
 pub byte-then-reg-determined : Determined _ byte-then-reg-kinds.ps byte-then-reg-kinds.r byte-then-reg.Learnt
 byte-then-reg-determined κs a x y u v p q = (p ∙ sym q, refl)
 
@@ -136,6 +178,9 @@ regs-reg-determined κs a x y u v p q = (p ∙ sym q, refl)
 pub set-reg-determined : Determined _ set-reg-kinds.ps set-reg-kinds.r set-reg.Learnt
 set-reg-determined κs a x y u v p q = (p ∙ sym q, refl)
 
+pub set-wide-determined : Determined _ set-wide-kinds.ps set-wide-kinds.r set-wide.Learnt
+set-wide-determined κs a x y u v p q = (p ∙ sym q, refl)
+
 pub regs-step-determined : Determined _ regs-step-kinds.ps regs-step-kinds.r regs-step.Learnt
 regs-step-determined κs a x y u v p q = (p ∙ sym q, refl)
 
@@ -154,6 +199,9 @@ mem-write-determined κs a x y u v p q = (p .0 ∙ sym (q .0), λ i. ((p .1 ∙ 
 pub stack-push-determined : Determined _ stack-push-kinds.ps stack-push-kinds.r stack-push.Learnt
 stack-push-determined κs a x y u v p q = (p .0 ∙ sym (q .0), λ i. ((p .1 ∙ sym (q .1)) i, (tt, (tt, tt))))
 
+pub bench-by-value-determined : Determined _ bench-by-value-kinds.ps bench-by-value-kinds.r bench-by-value.Learnt
+bench-by-value-determined κs a x y u v p q = (p ∙ sym q, refl)
+
 pub bench-local-determined : Determined _ bench-local-kinds.ps bench-local-kinds.r bench-local.Learnt
 bench-local-determined κs a x y u v p q = (p ∙ sym q, refl)
 
@@ -164,6 +212,18 @@ container-read-determined κs a x y u v p q = (p ∙ sym q, refl)
 
 pub verify-determined : Determined _ verify-kinds.ps verify-kinds.r verify.Learnt
 verify-determined κs a x y u v p q = (p ∙ sym q, refl)
+
+pub read-number-determined : Determined _ read-number-kinds.ps read-number-kinds.r read-number.Learnt
+read-number-determined κs a x y u v p q = (p ∙ sym q, refl)
+
+pub read-argument-determined : Determined _ read-argument-kinds.ps read-argument-kinds.r read-argument.Learnt
+read-argument-determined κs a x y u v p q = (p ∙ sym q, refl)
+
+pub verify-number-determined : Determined _ verify-number-kinds.ps verify-number-kinds.r verify-number.Learnt
+verify-number-determined κs a x y u v p q = (p ∙ sym q, refl)
+
+pub verify-argument-determined : Determined _ verify-argument-kinds.ps verify-argument-kinds.r verify-argument.Learnt
+verify-argument-determined κs a x y u v p q = (p ∙ sym q, refl)
 
 pub entry-offset-determined : Determined _ entry-offset-kinds.ps entry-offset-kinds.r entry-offset.Learnt
 entry-offset-determined κs a x y u v p q = (p ∙ sym q, refl)

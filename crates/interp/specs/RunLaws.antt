@@ -35,6 +35,13 @@ use Rattle.interp.specs.declared.fetch.Fetched.the-variants.{Done, Refus
 abbrev pub turnsOf : Env → Run → ℕ
 turnsOf e r = suc (e .limit - r .meter .used)
 
+-- the instruction that a fetch takes out of what was decoded at the run's place, and the run that it steps from
+pub record Taken (code : List ℕ) (r : Run) (i : Instr) (q : Run) : Type 0 where
+  pub out : Decoded
+  pub read : out ≡ decodeAt code (r .pc)
+  pub fetched : Fetches out r (Done q)
+  pub is-in : i ≡ instructionIn out
+
 -- between turns: a sound state, sixteen registers, and the rest of the run is the whole run's
 pub record Going (e : Env) (p : Parts) (r₀ : Run) (b₀ : Bufs) (r : Run) (f : RegFile) (b : Bufs) : Type 0 where
   pub sound : Sound e (p .replies) (r₀ .meter .used) r b
@@ -97,9 +104,9 @@ module _ (p : Parts) (r₀ : Run) (b₀ : Bufs) (r : Run) (f : RegFile) (b : Buf
       rw (one-turn e g (fault n a) q) (refl, l, refl, z)
 
   -- an instruction was fetched
-  module _ (o : Decoded) (read : o ≡ decodeAt (p .code) (r .pc)) (q : Run) (told : Fetches o r (Done q)) (i : Instr) (is-in : i ≡ instructionIn o) where
+  module _ (i : Instr) (q : Run) (taken : Taken (p .code) r i q) where
     at : (e : Env) → Begun e p r₀ b₀ → StepsFrom e (p .replies) d f b (suc (r .fetches)) (turnOf e (machineOf (p .replies) r f b)) i q
-    at e g = rw is-in (told e (p .replies) d f b (decoded-in o read e g) (before e g))
+    at e g = rw (taken .is-in) (taken .fetched e (p .replies) d f b (decoded-in (taken .out) (taken .read) e g) (before e g))
 
     pub step-ready : Starts p r₀ b₀ → Ready p q b
     step-ready s = let y = at (s .env) (s .begun) in record { env = s .env; above = d + priceOf (formOf i .op); suits = s .begun .suits; sound = y .1 }

@@ -11,7 +11,7 @@ use borrow.Author.Tests.{lt-ltb, le-leb, leb-true, ltb-true, ne-eqb}
 use Rattle.words.specs.Choice.{pick}
 use Rattle.words.specs.Bytes.{num, beBytes, Bytes}
 use Rattle.words.specs.BytesLaws.{length-beBytes}
-use Rattle.words.specs.BytesTheorems.{read-back-all, write-back, num-below}
+use Rattle.words.specs.BytesTheorems.{bytes-drop, read-back-all, write-back, num-below}
 use Rattle.isa.specs.declared.opcode.OpCode.{OpCode}
 use Rattle.isa.specs.declared.opcode.Op.{Op}
 use Rattle.isa.specs.declared.opcode.Op.the-variants.{Known, Unknown}
@@ -151,14 +151,11 @@ decoded-list (b ∷ s) i n all h =
     let x = opcode-of (opAt b) b s i n h in
     stands-here b s all (x .0) (x .1) i n (operands-read (x .0) s i n (x .2))
 
-bytes-from : (place : ℕ) (code : List ℕ) → Bytes code → Bytes (drop place code)
-bytes-from place code all k = rw getD-drop (all (place + k))
-
 -- where decode answers an instruction and a length, the bytes of that instruction, in range, stand there
 pub decode-stands : (code : List ℕ) (place : ℕ) (i : Instr) (n : ℕ) → Bytes code → decodeAt code place ≡ Done i n → Stands i n code place
 unfolding decodeAt
 decode-stands code place i n all h =
-    let r = decoded-list (drop place code) i n (bytes-from place code all) h in
+    let r = decoded-list (drop place code) i n (bytes-drop place code all) h in
     record { in-range = r .in-range; bytes = r .bytes; size = r .size }
 
 -- and where they stand, decode answers them: it refuses only where no instruction in range stands

@@ -3,15 +3,15 @@ use mathlib.Core.Path.{_≡_, refl, sym, ap, _∙_}
 use mathlib.Core.Bool.{Bool, true, false}
 use mathlib.Core.List.{List, [], _∷_}
 use mathlib.Core.Logic.{_⊎_, inl, inr}
-use Prim.Native.Nat.{ℕ, zero, suc, _+_, _*_, _≤_, _<_}
+use Prim.Native.Nat.{ℕ, suc, _+_, _*_, _≤_, _<_}
 use native.Mathlib.Omega.{arith}
 use native.Mathlib.Nat.{eq-or-lt-of-le}
 use lib.ListN.{length, take, drop, take-append-drop, length-drop, drop-of-length-le}
-use lib.Seq.{drop-drop, getD-drop, length-take-le}
+use lib.Seq.{drop-drop, length-take-le}
 use lib.Dec.{ltb}
 use borrow.Author.Tests.{lt-ltb, le-ltb, ltb-true, ltb-false}
 use Rattle.words.specs.Bytes.{num, numFrom, beBytes, Bytes}
-use Rattle.words.specs.BytesTheorems.{numFrom-append, write-back}
+use Rattle.words.specs.BytesTheorems.{bytes-take, bytes-drop, numFrom-append, write-back}
 use Rattle.tables.specs.Order.{orderOf}
 use Rattle.tables.specs.declared.order.Order.the-variants.{Less, Equal, Greater}
 
@@ -90,15 +90,6 @@ front-any (a ∷ xs) (b ∷ ys) x y e ba bb h = go (tri a b) (λ u v l. front-an
     go (below l q) ih = numFrom-less xs ys (y * 256 + a) (y * 256 + b) (omega arith) (λ i. ba (suc i)) (omega (arith, ba 0))
     go (same l q) ih = rw l (ih (x * 256 + b) (y * 256 + b) (rw l at h))
     go (above l q) ih = let k = numFrom-less ys xs (x * 256 + b) (x * 256 + a) (omega arith) (λ i. bb (suc i)) (omega (arith, bb 0)) in absurd (omega arith)
-
-bytes-take : (w : ℕ) (s : List ℕ) → Bytes s → Bytes (take w s)
-bytes-take zero s b k = omega arith
-bytes-take (suc w) [] b k = b k
-bytes-take (suc w) (x ∷ s) b zero = b 0
-bytes-take (suc w) (x ∷ s) b (suc k) = bytes-take w s (λ i. b (suc i)) k
-
-bytes-drop : (i : ℕ) (s : List ℕ) → Bytes s → Bytes (drop i s)
-bytes-drop i s b k = rw getD-drop (b (i + k))
 
 -- a and b agree in their first i bytes, whose number is the front
 pub record Agree (a b : List ℕ) (i : ℕ) : Type 0 where

@@ -1,13 +1,23 @@
--- A number's bytes read back as the number, and bytes written again as themselves. Assumes nothing.
+-- Parts of bytes; a number's bytes read back as the number, and bytes written again as themselves. Assumes nothing.
 use mathlib.Core.Path.{_≡_, refl, sym, ap, _∙_}
 use mathlib.Core.List.{List, [], _∷_, _++_}
 use Prim.Native.Nat.{ℕ, zero, suc, _+_, _*_, _/_, _%_, _^_, _≤_, _<_}
 use native.Mathlib.Omega.{arith}
 use native.Mathlib.Nat.{mod-one, mod-eq-of-lt, pow-suc, one-le-pow, add-zero, div-eq-of-lt, mul-add-div-right, mul-add-mod-self-right}
 use lib.Arith.{mod-mul}
-use lib.ListN.{length, take, getD}
-use lib.Seq.{take-suc}
+use lib.ListN.{length, take, drop, getD}
+use lib.Seq.{take-suc, getD-drop}
 use Rattle.words.specs.Bytes.{num, numFrom, beBytes, Bytes}
+
+-- parts of bytes are bytes
+pub bytes-take : (w : ℕ) (s : List ℕ) → Bytes s → Bytes (take w s)
+bytes-take zero s b k = omega arith
+bytes-take (suc w) [] b k = b k
+bytes-take (suc w) (x ∷ s) b zero = b 0
+bytes-take (suc w) (x ∷ s) b (suc k) = bytes-take w s (λ i. b (suc i)) k
+
+pub bytes-drop : (i : ℕ) (s : List ℕ) → Bytes s → Bytes (drop i s)
+bytes-drop i s b k = rw getD-drop (b (i + k))
 
 -- bytes after bytes
 pub numFrom-append : (a b : List ℕ) (x : ℕ) → numFrom x (a ++ b) ≡ numFrom (numFrom x a) b

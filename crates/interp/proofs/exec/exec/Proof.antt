@@ -6,9 +6,7 @@ use borrow.Author.Needs.{needs}
 use denote.Ref.{now}
 use Rattle.machine.specs.Bridge.{lentTo}
 use Rattle.interp.specs.Ties.{parts}
-use Rattle.interp.specs.Fetched.{Fetches}
-use Rattle.interp.specs.declared.fetch.Fetched.the-variants.{Done}
-use Rattle.interp.specs.RunLaws.{Looping, loop-begins, fetch-fits, loop-refused, step-ready, loop-faults, loop-halts, loop-goes, loop-shrinks, loop-sizes}
+use Rattle.interp.specs.RunLaws.{Looping, Taken, loop-begins, fetch-fits, loop-refused, step-ready, loop-faults, loop-halts, loop-goes, loop-shrinks, loop-sizes}
 use Rattle.interp.proofs.exec.exec.Statement.{statement}
 use Rattle.interp.proofs.exec.exec.Tie as tie
 
@@ -37,18 +35,23 @@ halted c = c .before .before .before .before .before .before .before .before .be
 abbrev going : tie.Else2 Inv-loop μ-loop → tie.After-step Inv-loop μ-loop
 going c = c .before .before .before .before .before .before .before .before .before .before .before .before .before .before .before .before .before .before .before .before .before
 
-abbrev taken : tie.After-step Inv-loop μ-loop → tie.After-instruction Inv-loop μ-loop
-taken c = c .before .before .before .before .before .before .before .before .before .before .before .before
+abbrev stepping : tie.After-step Inv-loop μ-loop → tie.After-instruction Inv-loop μ-loop
+stepping c = c .before .before .before .before .before .before .before .before .before .before .before .before
 
 abbrev decoded : tie.After-instruction Inv-loop μ-loop → tie.After-decode Inv-loop μ-loop
 decoded c = c .before .before .before .before .before
 
 abbrev turn : tie.After-step Inv-loop μ-loop → tie.At-loop Inv-loop μ-loop
-turn c = decoded (taken c) .before
+turn c = decoded (stepping c) .before
 
--- what the fetch says of the run that the instruction steps from
-fetched : (c : tie.After-instruction Inv-loop μ-loop) → Fetches (decoded c .decode .result) (decoded c .before .loop .run) (Done (c .before .before .f2 .given .0 .0))
-fetched c = rw (c .before .before .f2 .given .1) at (c .before .before .before .before .fetch .ensures)
+-- the turn's instruction and the run that it steps from
+taken-at : (c : tie.After-instruction Inv-loop μ-loop) → Taken (now (start (decoded c .before) .args .code)) (decoded c .before .loop .run) (c .instruction .result) (c .before .before .f2 .given .0 .0)
+taken-at c = record {
+  out = decoded c .decode .result;
+  read = decoded c .decode .ensures;
+  fetched = rw (c .before .before .f2 .given .1) at (c .before .before .before .before .fetch .ensures);
+  is-in = c .instruction .ensures;
+}
 
 -- ---- the needs
 
@@ -96,7 +99,7 @@ step-requires : tie.Need-step-requires Inv-loop μ-loop
 step-requires c κs =
     let i = c .before .before .before .before .before .before .before .before .before .before .before in
     let head = decoded i .before in
-    step-ready _ _ _ _ _ _ (head .loop .inv) _ (decoded i .decode .ensures) _ (fetched i) _ (i .instruction .ensures) (start head .pre)
+    step-ready _ _ _ _ _ _ (head .loop .inv) _ _ (taken-at i) (start head .pre)
 
 same-length-9 : tie.Need-same-length-9 Inv-loop μ-loop
 same-length-9 c = faulted c .step .kept .1 .1 .1 .1 .1 .1 .1 .1 .1 .1 .1 .1 .1 .1 .1 .0 ∙ loop-sizes _ _ _ _ _ _ (turn (faulted c) .loop .inv) (start (turn (faulted c)) .pre) .memory
@@ -125,7 +128,7 @@ same-length-16 c = faulted c .step .kept .1 .1 .1 .1 .1 .1 .1 .1 .1 .1 .1 .1 .1 
 returns-2 : tie.Need-returns-2 Inv-loop μ-loop
 returns-2 c =
     let s = faulted c in
-    loop-faults _ _ _ _ _ _ (turn s .loop .inv) _ (decoded (taken s) .decode .ensures) _ (fetched (taken s)) _ (taken s .instruction .ensures) _ _ (s .step .ensures) (c .if1 .taken) _
+    loop-faults _ _ _ _ _ _ (turn s .loop .inv) _ _ (taken-at (stepping s)) _ _ (s .step .ensures) (c .if1 .taken) _
 
 same-length-17 : tie.Need-same-length-17 Inv-loop μ-loop
 same-length-17 c = halted c .step .kept .1 .1 .1 .1 .1 .1 .1 .1 .1 .1 .1 .1 .1 .1 .1 .0 ∙ loop-sizes _ _ _ _ _ _ (turn (halted c) .loop .inv) (start (turn (halted c)) .pre) .memory
@@ -154,17 +157,17 @@ same-length-24 c = halted c .step .kept .1 .1 .1 .1 .1 .1 .1 .1 .1 .1 .1 .1 .1 .
 returns-3 : tie.Need-returns-3 Inv-loop μ-loop
 returns-3 c =
     let s = halted c in
-    loop-halts _ _ _ _ _ _ (turn s .loop .inv) _ (decoded (taken s) .decode .ensures) _ (fetched (taken s)) _ (taken s .instruction .ensures) _ _ (s .step .ensures) (c .before .before .before .if1 .left) (c .if2 .taken) _ (c .before .before .put .ensures)
+    loop-halts _ _ _ _ _ _ (turn s .loop .inv) _ _ (taken-at (stepping s)) _ _ (s .step .ensures) (c .before .before .before .if1 .left) (c .if2 .taken) _ (c .before .before .put .ensures)
 
 loop-less : tie.Need-loop-less Inv-loop μ-loop
 loop-less c =
     let s = going c in
-    loop-shrinks _ _ _ _ _ _ (turn s .loop .inv) _ (decoded (taken s) .decode .ensures) _ (fetched (taken s)) _ (taken s .instruction .ensures) _ _ (s .step .ensures) (start (turn s) .pre) (c .before .before .before .if1 .left) (c .if2 .left)
+    loop-shrinks _ _ _ _ _ _ (turn s .loop .inv) _ _ (taken-at (stepping s)) _ _ (s .step .ensures) (start (turn s) .pre) (c .before .before .before .if1 .left) (c .if2 .left)
 
 loop-again : tie.Need-loop-again Inv-loop μ-loop
 loop-again c =
     let s = going c in
-    loop-goes _ _ _ _ _ _ (turn s .loop .inv) _ (decoded (taken s) .decode .ensures) _ (fetched (taken s)) _ (taken s .instruction .ensures) _ _ (s .step .ensures) (c .before .before .before .if1 .left) (c .if2 .left) _ (c .before .before .put .ensures)
+    loop-goes _ _ _ _ _ _ (turn s .loop .inv) _ _ (taken-at (stepping s)) _ _ (s .step .ensures) (c .before .before .before .if1 .left) (c .if2 .left) _ (c .before .before .put .ensures)
 
 pub exec-spec : {M : Type 1} → statement M
 exec-spec =

@@ -126,9 +126,9 @@ hit-here g log t e es (q, b) = go (alikeOf t (g .kind) (length (g .bytes))) refl
 
 -- bytes compared one by one, the last first
 
-pub one-more : (log ys : List ℕ) (from i : ℕ) → ((k : ℕ) → i ≤ k → k < length ys → getD log (from + k) 0 ≡ getD ys k 0) → getD log (from + (i - 1)) 0 ≡ getD ys (i - 1) 0
+pub same-from : (log ys : List ℕ) (from i : ℕ) → ((k : ℕ) → i ≤ k → k < length ys → getD log (from + k) 0 ≡ getD ys k 0) → getD log (from + (i - 1)) 0 ≡ getD ys (i - 1) 0
     → (k : ℕ) → i - 1 ≤ k → k < length ys → getD log (from + k) 0 ≡ getD ys k 0
-one-more log ys from i f e k l m = go (eq-or-lt-of-le l)
+same-from log ys from i f e k l m = go (eq-or-lt-of-le l)
   where
     go : (i - 1 ≡ k) ⊎ (i - 1 < k) → getD log (from + k) 0 ≡ getD ys k 0
     go (inl q) = rw q at e

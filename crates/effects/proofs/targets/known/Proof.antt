@@ -9,7 +9,7 @@ use borrow.Author.Tests.{not-true, not-false}
 use Rattle.effects.specs.Targets.{Target, knownIn}
 use Rattle.effects.specs.Trailers.{alikeOf}
 use Rattle.effects.specs.WalkLaws.{Walked, walk-start, walk-turn, walk-stop, walk-end}
-use Rattle.effects.specs.TargetLaws.{hits, alike-within, known-told, one-more, all-same, one-differs}
+use Rattle.effects.specs.TargetLaws.{hits, alike-within, known-told, same-from, all-same, one-differs}
 use Rattle.effects.proofs.targets.known.Statement.{statement}
 use Rattle.effects.proofs.targets.known.Tie as tie
 
@@ -105,7 +105,7 @@ loop-again : tie.Need-loop-again Inv-loop μ-loop Inv-walk μ-walk
 loop-again c =
     let l = c .before .before .before .before in
     let b = l .before .before .before in
-    (omega arith, one-more (S b .args .log .now) (goal b .bytes) (b .behind .result .from) (l .loop .i) (l .loop .inv .1) (c .if4 .left))
+    (omega arith, same-from (S b .args .log .now) (goal b .bytes) (b .behind .result .from) (l .loop .i) (l .loop .inv .1) (c .if4 .left))
 
 returns : tie.Need-returns Inv-loop μ-loop Inv-walk μ-walk
 unfolding knownIn

@@ -26,17 +26,23 @@ start c = c .before .before .before .before .before .before .before .before .bef
 abbrev refused : tie.After-struct-known Inv-loop μ-loop → tie.After-decode Inv-loop μ-loop
 refused c = c .before .before .before .before .before
 
+abbrev stepped : tie.After-struct-known2 Inv-loop μ-loop → tie.After-step Inv-loop μ-loop
+stepped c = c .before .before .before .before .before .before .before .before .before .before .before .before .before .before .before .before .before
+
 abbrev faulted : tie.Then1 Inv-loop μ-loop → tie.After-step Inv-loop μ-loop
-faulted c = c .before .before .before .before .before .before .before .before .before .before .before .before .before .before .before .before .before .before
+faulted c = stepped (c .before)
 
 abbrev halted : tie.Then2 Inv-loop μ-loop → tie.After-step Inv-loop μ-loop
-halted c = c .before .before .before .before .before .before .before .before .before .before .before .before .before .before .before .before .before .before .before .before .before
+halted c = stepped (c .before .before .before .before)
 
 abbrev going : tie.Else2 Inv-loop μ-loop → tie.After-step Inv-loop μ-loop
-going c = c .before .before .before .before .before .before .before .before .before .before .before .before .before .before .before .before .before .before .before .before .before
+going c = stepped (c .before .before .before .before)
+
+abbrev asked : tie.After-step-arg10 Inv-loop μ-loop → tie.After-instruction Inv-loop μ-loop
+asked c = c .before .before .before .before .before .before .before .before .before .before .before
 
 abbrev stepping : tie.After-step Inv-loop μ-loop → tie.After-instruction Inv-loop μ-loop
-stepping c = c .before .before .before .before .before .before .before .before .before .before .before .before
+stepping c = asked (c .before)
 
 abbrev decoded : tie.After-instruction Inv-loop μ-loop → tie.After-decode Inv-loop μ-loop
 decoded c = c .before .before .before .before .before
@@ -97,7 +103,7 @@ returns c =
 
 step-requires : tie.Need-step-requires Inv-loop μ-loop
 step-requires c κs =
-    let i = c .before .before .before .before .before .before .before .before .before .before .before in
+    let i = asked c in
     let head = decoded i .before in
     step-ready _ _ _ _ _ _ (head .loop .inv) _ _ (taken-at i) (start head .pre)
 

@@ -38,18 +38,6 @@ room r = omega arith
 loop-holds : tie.Need-loop-holds Inv-loop μ-loop
 loop-holds c = (omega arith, agree-start _ _)
 
-mul-read : tie.Need-mul-read Inv-loop μ-loop
-mul-read c = omega arith
-
-read-requires : tie.Need-read-requires Inv-loop μ-loop
-read-requires c κs = (omega arith, omega arith)
-
-mul-read-2 : tie.Need-mul-read-2 Inv-loop μ-loop
-mul-read-2 c = omega arith
-
-read-requires-2 : tie.Need-read-requires-2 Inv-loop μ-loop
-read-requires-2 c κs = (omega arith, omega arith)
-
 returns : tie.Need-returns Inv-loop μ-loop
 returns c =
     let r = c .before in
@@ -59,12 +47,6 @@ returns-2 : tie.Need-returns-2 Inv-loop μ-loop
 returns-2 c =
     let r = c .before .before in
     sym (order-greater _ _ (agree-less (agree-sym (head r .loop .inv .1)) (sym (start r .pre .0)) 8 (omega (arith, room r)) (bytes-b r) (bytes-a r) (rw (r .read2 .ensures, r .before .read .ensures) at (c .if2 .taken))))
-
-add-i : tie.Need-add-i Inv-loop μ-loop
-add-i c = omega arith
-
-loop-less : tie.Need-loop-less Inv-loop μ-loop
-loop-less c = omega arith
 
 loop-again : tie.Need-loop-again Inv-loop μ-loop
 loop-again c =
@@ -85,13 +67,13 @@ compare-spec =
     Inv-loop
     μ-loop
     loop-holds
-    mul-read
-    read-requires
-    mul-read-2
-    read-requires-2
+    (λ c. omega arith)
+    (λ c κs. (omega arith, omega arith))
+    (λ c. omega arith)
+    (λ c κs. (omega arith, omega arith))
     returns
     returns-2
-    add-i
-    loop-less
+    (λ c. omega arith)
+    (λ c. omega arith)
     loop-again
     returns-3)

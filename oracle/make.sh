@@ -3,16 +3,12 @@
 set -eu
 cd "$(dirname "$0")/.."
 sh oracle/build.sh
-mkdir -p crates/codec crates/arith crates/bench crates/verdicts crates/stores crates/key_steps crates/runs
 
 vectors() {
-    python3 oracle/vectors.py "$1" > "$2"
-    target/oracle/oracle "$1" < "$2" > "$3"
+    python3 oracle/vectors.py "$1" > "crates/$2/stdin"
+    target/oracle/oracle "$1" < "crates/$2/stdin" > "crates/$2/stdout"
 }
-vectors codec crates/codec/stdin crates/codec/stdout
-vectors arith crates/arith/stdin crates/arith/stdout
-vectors bench crates/bench/stdin crates/bench/stdout
-vectors verdict crates/verdicts/stdin crates/verdicts/stdout
-vectors stores crates/stores/stdin crates/stores/stdout
-vectors key_steps crates/key_steps/stdin crates/key_steps/stdout
-vectors runs crates/runs/stdin crates/runs/stdout
+for name in codec arith bench stores key_steps runs; do
+    vectors "$name" "replay_$name"
+done
+vectors verdict replay_verdicts

@@ -6,7 +6,7 @@ import re
 import subprocess
 from dataclasses import dataclass, replace
 
-from vectors import SHAPES, WORD, big, container, encoded, entry, instruction, with_byte
+from parts import SHAPES, WORD, big, container, encoded, entry, instruction, with_byte
 
 ORACLE = "target/oracle/oracle"
 OPS = dict(halt=0, nop=1, mov=2, ldi=3, ldc=4, add=16, sub=17, mul=18, div=19, rem=20, addw=24, subw=25, mulw=26, mulhi=27,

@@ -10,12 +10,10 @@ use lib.Dec.{leb}
 use borrow.Author.Tests.{le-leb, lt-leb}
 use Rattle.words.specs.Choice.{pick}
 use Rattle.tables.specs.Rows.{Row, rows}
-use Rattle.tables.specs.Table.{Table}
-use Rattle.tables.specs.Checked.{risingb, checkedOf}
-use Rattle.tables.specs.CheckTheorems.{whole-table}
+use Rattle.tables.specs.Checked.{risingb, checkedOf, checkedIf}
 use Rattle.tables.specs.declared.check.Checked.the-variants.{Whole, Bad}
 use Rattle.changes.specs.ChangeList.{Lent, changed, rowsOf, loaderOf, storedOf, listFrom, listOf, answerOf, outputBy, outputOf}
-use Rattle.changes.specs.Parts.{written}
+use Rattle.changes.specs.Changed.{written}
 use Rattle.changes.specs.declared.ChangeList.{ChangeList}
 use Rattle.changes.specs.declared.ChangeList.the-variants as answer
 
@@ -50,19 +48,14 @@ stored-by t n b h e = rw (le-leb (n * 40) (length t) (omega arith), ← e)
 
 -- a loader that is absent has no rows
 abbrev pub Loader : Bool → List ℕ → ℕ → Type 0
-Loader present t n = pick present (checkedOf 40 t) (Whole 0) ≡ Whole n
-
-pub loader-table : (present : Bool) (t : List ℕ) (n : ℕ) → Loader present t n → Table 40 n t
-unfolding rows
-loader-table true t n e = whole-table 40 t (omega arith) n e
-loader-table false t n e = let z : 0 ≡ n = cc in rw (← z) (record { wide = omega arith; fits = omega arith; rising = tt })
+Loader present t n = checkedIf present 40 t ≡ Whole n
 
 pub loader-rows : (present : Bool) (t : List ℕ) (n : ℕ) → Loader present t n → loaderOf present t ≡ some (rows 40 n t)
 unfolding loaderOf rowsOf rows
 loader-rows true t n e = rw e
 loader-rows false t n e = let z : 0 ≡ n = cc in rw (← z)
 
-pub loader-bad : (present : Bool) (t : List ℕ) → pick present (checkedOf 40 t) (Whole 0) ≡ Bad → loaderOf present t ≡ none
+pub loader-bad : (present : Bool) (t : List ℕ) → checkedIf present 40 t ≡ Bad → loaderOf present t ≡ none
 unfolding loaderOf rowsOf
 loader-bad true t e = rw e
 loader-bad false t e = let z : _≡_ {A = ℕ} 0 1 = cc in absurd (omega arith)

@@ -35,6 +35,10 @@ pub record Lent : Type 0 where
   pub present : Bool
   pub loader : List ℕ
 
+abbrev pub lent : (changes : List ℕ) (count : ℕ) (store : List ℕ) (present : Bool) (loader : List ℕ) → Lent
+lent changes count store present loader =
+    record { changes = changes; count = count; store = store; present = present; loader = loader }
+
 -- the rows of a whole table, if it is one
 unfoldable pub rowsOf : Checked → List ℕ → Option (List Row)
 rowsOf (Whole n) t = some (rows 40 n t)

@@ -14,7 +14,7 @@ use Rattle.tables.specs.Answers.{gotOf}
 use Rattle.tables.specs.LayoutLaws.{rowOf-append}
 use Rattle.tables.specs.declared.rows.Got.the-variants.{Value, Nothing}
 use Rattle.changes.specs.ChangeList.{orElse, changed}
-use Rattle.changes.specs.Parts.{sameb}
+use Rattle.changes.specs.Changed.{sameb}
 
 -- a value that was looked up, and what stands in where there is none
 pub got-value : (o : Option ℕ) (v d : ℕ) → gotOf o ≡ Value v → v ≡ orElse o d

@@ -2,7 +2,8 @@ pub mod AnswerLaws
 pub mod ChangeList
 pub mod LeftLaws
 pub mod WriteLaws
-pub mod Parts
+pub mod Changed
+pub mod Put
 pub mod Merge
 pub mod MergeLaws
 pub mod MergeTheorems

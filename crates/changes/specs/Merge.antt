@@ -1,4 +1,5 @@
--- The new store: the store's rows with every stored key's last value put in. A value of 0 stays a row, since a store's row decides before the loader's (document 01, Lent input and what is left).
+-- The new store: the store's rows with every stored key's last value put in (document 01, Lent input and what is left).
+-- A value of 0 stays a row, since a store's row decides before the loader's.
 use mathlib.Core.List.{List, [], _∷_}
 use mathlib.Core.Option.{Option, some, none}
 use Prim.Native.Nat.{ℕ, _+_, _*_}
@@ -21,7 +22,8 @@ mergedIn none ss = none
 
 -- 45 for a table that is none, then 48 for an output without room for the rows of both
 unfoldable pub mergeAnswer : (changes store : Option (List Row)) → (out : List ℕ) → ChangeList
-mergeAnswer (some cs) (some ss) out = pick (leb ((length ss + length cs) * 40) (length out)) (answer.Rows (length (merged cs ss))) answer.NoRoom
+mergeAnswer (some cs) (some ss) out =
+    pick (leb ((length ss + length cs) * 40) (length out)) (answer.Rows (length (merged cs ss))) answer.NoRoom
 mergeAnswer (some cs) none out = answer.BadTable
 mergeAnswer none ss out = answer.BadTable
 

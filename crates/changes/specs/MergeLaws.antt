@@ -20,6 +20,7 @@ use Rattle.tables.specs.declared.store.Stored.{Stored}
 use Rattle.tables.specs.declared.store.Stored.the-variants.{Count, NoRoom}
 use Rattle.changes.specs.ChangeList.{outputBy}
 use Rattle.changes.specs.Merge.{merged, mergedIn, mergeAnswer, mergeOutput}
+use Rattle.changes.specs.Put.{Put}
 use Rattle.changes.specs.LeftLaws.{part, next-rows}
 use Rattle.changes.specs.declared.ChangeList.{ChangeList}
 use Rattle.changes.specs.declared.ChangeList.the-variants as answer
@@ -39,20 +40,15 @@ merged-length (c ∷ cs) ss =
     let (l, h) = merged-length cs (insert c ss) in
     (omega arith, omega arith)
 
--- u is t, whose first m rows were a table, after x was put in; it has r rows now
-pub record Put (x : Row) (m : ℕ) (t u : List ℕ) (r : ℕ) : Type 0 where
-  pub table : Table 40 r u
-  pub is : rows 40 r u ≡ insert x (rows 40 m t)
-  pub rest : drop (r * 40) u ≡ drop (r * 40) t
-  pub least : m ≤ r
-  pub most : r ≤ m + 1
-
-module _ (row t u : List ℕ) (m : ℕ) (tb : Table 40 m t) (w : length row ≡ 40) (s : Stored) (i : Inserted (length row) m (rowOf (length row) row) t u s) where
+module _ (row t u : List ℕ) (m : ℕ) (tb : Table 40 m t) (w : length row ≡ 40) (s : Stored)
+    (i : Inserted (length row) m (rowOf (length row) row) t u s) where
   abbrev x : Row
   x = rowOf 40 row
 
   inserted : (o : Stored) → s ≡ o → Inserted 40 m x t u o
-  inserted o e = subst (λ (k : ℕ). Inserted k m (rowOf k row) t u o) w (subst (λ (p : Stored). Inserted (length row) m (rowOf (length row) row) t u p) e i)
+  inserted o e =
+      let as-told = subst (λ (p : Stored). Inserted (length row) m (rowOf (length row) row) t u p) e i in
+      subst (λ (k : ℕ). Inserted k m (rowOf k row) t u o) w as-told
 
   pub put-counted : (r : ℕ) → s ≡ Count r → length u ≡ length t → Put x m t u r
   put-counted r e l =
@@ -113,7 +109,8 @@ module _ (changes : List ℕ) (n : ℕ) (t₀ : List ℕ) (m : ℕ) where
   }
 
   -- all are in
-  pub putting-end : (t : List ℕ) (k i : ℕ) → n ≤ i → Putting changes n t₀ m t k i → (rows 40 k t ≡ merged (rows 40 n changes) (rows 40 m t₀)) × (drop (k * 40) t ≡ drop (k * 40) t₀)
+  pub putting-end : (t : List ℕ) (k i : ℕ) → n ≤ i → Putting changes n t₀ m t k i →
+      (rows 40 k t ≡ merged (rows 40 n changes) (rows 40 m t₀)) × (drop (k * 40) t ≡ drop (k * 40) t₀)
   unfolding merged rows
   putting-end t k i h p =
       let q : n - i ≡ 0 = omega arith in
@@ -163,9 +160,11 @@ module _ (cs ss : List Row) (out : List ℕ) (n ns : ℕ) (a : length cs ≡ n) 
       let c : k ≡ length (merged cs ss) = sym (rows-length 40 k u) ∙ ap length r in
       let f = le-leb ((length ss + length cs) * 40) (length out) (omega arith) in
       let g : drop (k * 40) u ≡ drop (k * 40) out = e ∙ drop-beyond (ns * 40) (k * 40) t out (omega arith) d in
-      let w : u ≡ bytesOf 40 (merged cs ss) ++ drop (k * 40) out = sym (held-bytes 40 k u by (omega arith) (omega arith)) ∙ (λ i. bytesOf 40 (r i) ++ g i) in
+      let w : u ≡ bytesOf 40 (merged cs ss) ++ drop (k * 40) out =
+      sym (held-bytes 40 k u by (omega arith) (omega arith)) ∙ (λ i. bytesOf 40 (r i) ++ g i) in
       (rw f (ap answer.Rows c), rw f (w ∙ ap (λ (j : ℕ). bytesOf 40 (merged cs ss) ++ drop (j * 40) out) c))
 
 -- a merge of equal tables is the same
-pub merges-as : (cs ds ss ts : Option (List Row)) (out after : List ℕ) (r : ChangeList) → cs ≡ ds → ss ≡ ts → Merges ds ts out after r → Merges cs ss out after r
+pub merges-as : (cs ds ss ts : Option (List Row)) (out after : List ℕ) (r : ChangeList) → cs ≡ ds → ss ≡ ts →
+    Merges ds ts out after r → Merges cs ss out after r
 merges-as cs ds ss ts out after r p q x = rw (p, q) x

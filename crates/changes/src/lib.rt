@@ -6,13 +6,10 @@ ghost use mathlib.Core.Option.{some};
 ghost use Prim.Native.Nat.{_*_, _≤_};
 ghost use lib.ListN.{length};
 ghost use Rattle.words.specs.Bytes.{num};
-ghost use Rattle.words.specs.Choice.{pick};
 ghost use Rattle.tables.specs.Rows.{rowOf, rows};
 ghost use Rattle.tables.specs.Table.{Table};
-ghost use Rattle.tables.specs.Checked.{checkedOf};
-ghost use Rattle.tables.specs.declared.check.Checked.the-variants.{Whole};
-ghost use Rattle.changes.specs.ChangeList.{startOf, listOf, answerOf, outputOf};
-ghost use Rattle.changes.specs.Parts.{sameb, changedIn, written};
+ghost use Rattle.changes.specs.ChangeList.{startOf, lent, listOf, answerOf, outputOf};
+ghost use Rattle.changes.specs.Changed.{sameb, changedIn, written};
 use tables::check::Checked;
 use tables::rows::Got;
 
@@ -86,8 +83,10 @@ fn write_changed(
     nl: usize,
     out: &mut [u8],
 )
-    requires { ⌜ Table 40 ns (now store) × Table 40 nl (now loader) × (n * 40 ≤ length (now changes)) × (length (changedIn (now changes) n (now store) ns (now loader) nl) * 40 ≤ length (now out)) ⌝ }
-    ensures { λ _. ⌜ now (out .exit) ≡ written (changedIn (now (changes .entry)) n (now (store .entry)) ns (now (loader .entry)) nl) (now (out .entry)) ⌝ }
+    requires { ⌜ Table 40 ns (now store) × Table 40 nl (now loader) × (n * 40 ≤ length (now changes)) ×
+        (length (changedIn (now changes) n (now store) ns (now loader) nl) * 40 ≤ length (now out)) ⌝ }
+    ensures { λ _. ⌜ now (out .exit) ≡
+        written (changedIn (now (changes .entry)) n (now (store .entry)) ns (now (loader .entry)) nl) (now (out .entry)) ⌝ }
 {
     let mut to = 0;
     let mut i = 0;
@@ -115,8 +114,10 @@ fn list(
     out: &mut [u8],
 ) -> ChangeList
     requires { ⌜ Table 40 ns (now store) × Table 40 nl (now loader) × (n * 40 ≤ length (now changes)) ⌝ }
-    ensures answer { λ r. ⌜ r ≡ answerOf (some (changedIn (now (changes .entry)) n (now (store .entry)) ns (now (loader .entry)) nl)) (now (out .entry)) ⌝ }
-    ensures output { λ _. ⌜ now (out .exit) ≡ outputOf (some (changedIn (now (changes .entry)) n (now (store .entry)) ns (now (loader .entry)) nl)) (now (out .entry)) ⌝ }
+    ensures answer { λ r. ⌜ r ≡
+        answerOf (some (changedIn (now (changes .entry)) n (now (store .entry)) ns (now (loader .entry)) nl)) (now (out .entry)) ⌝ }
+    ensures output { λ _. ⌜ now (out .exit) ≡
+        outputOf (some (changedIn (now (changes .entry)) n (now (store .entry)) ns (now (loader .entry)) nl)) (now (out .entry)) ⌝ }
 {
     let k = count_changed(changes, n, store, ns, loader, nl);
     if out.len() / 40 < k {
@@ -124,16 +125,6 @@ fn list(
     }
     write_changed(changes, n, store, ns, loader, nl, out);
     ChangeList::Rows(k)
-}
-
-// The loader's rows: none where it is absent.
-fn loader_check(present: bool, loader: &[u8]) -> Checked
-    ensures { λ r. ⌜ r ≡ pick present (checkedOf 40 (now (loader .entry))) (Whole 0) ⌝ }
-{
-    if present {
-        return tables::check::check(loader, 40);
-    }
-    Checked::Whole(0)
 }
 
 // The stored keys whose last value differs from the starting value, rising, with their last values.
@@ -145,8 +136,10 @@ pub fn change_list(
     loader: &[u8],
     out: &mut [u8],
 ) -> ChangeList
-    ensures answer { λ r. ⌜ r ≡ answerOf (listOf (record { changes = now (changes .entry); count = count; store = now (store .entry); present = present; loader = now (loader .entry) })) (now (out .entry)) ⌝ }
-    ensures output { λ _. ⌜ now (out .exit) ≡ outputOf (listOf (record { changes = now (changes .entry); count = count; store = now (store .entry); present = present; loader = now (loader .entry) })) (now (out .entry)) ⌝ }
+    ensures answer { λ r. ⌜ r ≡
+        answerOf (listOf (lent (now (changes .entry)) count (now (store .entry)) present (now (loader .entry)))) (now (out .entry)) ⌝ }
+    ensures output { λ _. ⌜ now (out .exit) ≡
+        outputOf (listOf (lent (now (changes .entry)) count (now (store .entry)) present (now (loader .entry)))) (now (out .entry)) ⌝ }
 {
     if changes.len() / 40 < count {
         return ChangeList::BadTable;
@@ -158,7 +151,7 @@ pub fn change_list(
     match s {
         Checked::Bad => ChangeList::BadTable,
         Checked::Whole(ns) => {
-            let l = loader_check(present, loader);
+            let l = tables::check::check_if(present, loader, 40);
             match l {
                 Checked::Bad => ChangeList::BadTable,
                 Checked::Whole(nl) => list(changes, count, store, ns, loader, nl, out),

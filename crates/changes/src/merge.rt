@@ -8,7 +8,7 @@ ghost use Rattle.tables.specs.Table.{Table};
 ghost use Rattle.tables.specs.Checked.{checkedOf};
 ghost use Rattle.changes.specs.ChangeList.{storedOf, rowsOf};
 ghost use Rattle.changes.specs.Merge.{merged, mergeAnswer, mergeOutput};
-ghost use Rattle.changes.specs.MergeLaws.{Put};
+ghost use Rattle.changes.specs.Put.{Put};
 use crate::ChangeList;
 use tables::check::Checked;
 use tables::store::Stored;
@@ -28,7 +28,8 @@ fn put_row(t: &mut [u8], m: usize, row: &[u8]) -> usize
 // Puts n rows into the first m rows, which have room for them; how many there are then.
 fn put_rows(t: &mut [u8], m: usize, changes: &[u8], n: usize) -> usize
     requires { ⌜ Table 40 m (now t) × (n * 40 ≤ length (now changes)) × ((m + n) * 40 ≤ length (now t)) ⌝ }
-    ensures { λ r. ⌜ (rows 40 r (now (t .exit)) ≡ merged (rows 40 n (now (changes .entry))) (rows 40 m (now (t .entry)))) × (drop (r * 40) (now (t .exit)) ≡ drop (r * 40) (now (t .entry))) ⌝ }
+    ensures { λ r. ⌜ (rows 40 r (now (t .exit)) ≡ merged (rows 40 n (now (changes .entry))) (rows 40 m (now (t .entry)))) ×
+        (drop (r * 40) (now (t .exit)) ≡ drop (r * 40) (now (t .entry))) ⌝ }
 {
     let mut k = m;
     let mut i = 0;
@@ -44,8 +45,10 @@ fn put_rows(t: &mut [u8], m: usize, changes: &[u8], n: usize) -> usize
 // The new store over checked tables, if the output has room for the rows of both.
 fn merge_whole(changes: &[u8], n: usize, store: &[u8], ns: usize, out: &mut [u8]) -> ChangeList
     requires { ⌜ Table 40 ns (now store) × (length (now store) ≡ ns * 40) × (n * 40 ≤ length (now changes)) ⌝ }
-    ensures answer { λ r. ⌜ r ≡ mergeAnswer (some (rows 40 n (now (changes .entry)))) (some (rows 40 ns (now (store .entry)))) (now (out .entry)) ⌝ }
-    ensures output { λ _. ⌜ now (out .exit) ≡ mergeOutput (some (rows 40 n (now (changes .entry)))) (some (rows 40 ns (now (store .entry)))) (now (out .entry)) ⌝ }
+    ensures answer { λ r. ⌜ r ≡
+        mergeAnswer (some (rows 40 n (now (changes .entry)))) (some (rows 40 ns (now (store .entry)))) (now (out .entry)) ⌝ }
+    ensures output { λ _. ⌜ now (out .exit) ≡
+        mergeOutput (some (rows 40 n (now (changes .entry)))) (some (rows 40 ns (now (store .entry)))) (now (out .entry)) ⌝ }
 {
     if out.len() / 40 < ns + n {
         return ChangeList::NoRoom;
@@ -56,8 +59,10 @@ fn merge_whole(changes: &[u8], n: usize, store: &[u8], ns: usize, out: &mut [u8]
 
 // The store's rows with the counted changes put in, rising.
 pub fn merge(changes: &[u8], count: usize, store: &[u8], out: &mut [u8]) -> ChangeList
-    ensures answer { λ r. ⌜ r ≡ mergeAnswer (storedOf (now (changes .entry)) count) (rowsOf (checkedOf 40 (now (store .entry))) (now (store .entry))) (now (out .entry)) ⌝ }
-    ensures output { λ _. ⌜ now (out .exit) ≡ mergeOutput (storedOf (now (changes .entry)) count) (rowsOf (checkedOf 40 (now (store .entry))) (now (store .entry))) (now (out .entry)) ⌝ }
+    ensures answer { λ r. ⌜ r ≡
+        mergeAnswer (storedOf (now (changes .entry)) count) (rowsOf (checkedOf 40 (now (store .entry))) (now (store .entry))) (now (out .entry)) ⌝ }
+    ensures output { λ _. ⌜ now (out .exit) ≡
+        mergeOutput (storedOf (now (changes .entry)) count) (rowsOf (checkedOf 40 (now (store .entry))) (now (store .entry))) (now (out .entry)) ⌝ }
 {
     if changes.len() / 40 < count {
         return ChangeList::BadTable;

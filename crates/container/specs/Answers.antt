@@ -1,52 +1,24 @@
--- Document 01's number and argument for each case of the container's answers (Numbers returned); 0 0 when done.
-use Rattle.isa.specs.Answers.{Answer, answer}
+-- Document 01's number and argument for each case of the reader's answers (Numbers returned); 0 0 when done.
+use Rattle.words.specs.Refusals.{refusal}
+use Rattle.words.specs.declared.refusal.Refusal.{Refusal}
 use Rattle.container.specs.declared.reader.ReadError.{ReadError}
 use Rattle.container.specs.declared.reader.ReadError.the-variants as reader
 use Rattle.container.specs.declared.reader.Reading.{Reading}
 use Rattle.container.specs.declared.reader.Reading.the-variants as reading
-use Rattle.container.specs.declared.verify.VerifyError.{VerifyError}
-use Rattle.container.specs.declared.verify.VerifyError.the-variants as verify
-use Rattle.container.specs.declared.verify.Verified.{Verified}
-use Rattle.container.specs.declared.verify.Verified.the-variants as verified
 use Rattle.container.specs.declared.offsets.Offset.{Offset}
 use Rattle.container.specs.declared.offsets.Offset.the-variants as offset
-use Rattle.container.specs.declared.writer.Written.{Written}
-use Rattle.container.specs.declared.writer.Written.the-variants as written
 
-abbrev pub readError : ReadError → Answer
-readError reader.BadTag = answer 41 0
-readError reader.Short = answer 42 0
-readError reader.Trailing = answer 43 0
+abbrev pub readError : ReadError → Refusal
+readError reader.BadTag = refusal 41 0
+readError reader.Short = refusal 42 0
+readError reader.Trailing = refusal 43 0
 
-abbrev pub readingAnswer : Reading → Answer
-readingAnswer (reading.Done l) = answer 0 0
+abbrev pub readingAnswer : Reading → Refusal
+readingAnswer (reading.Done l) = refusal 0 0
 readingAnswer (reading.Refused e) = readError e
 
--- selectors as numbers
-abbrev pub verifyError : VerifyError → Answer
-verifyError verify.CodeTooLarge = answer 21 0
-verifyError verify.ConstsTooLarge = answer 22 0
-verifyError verify.EntriesTooLarge = answer 23 0
-verifyError (verify.UndecodableCode place e) = answer 24 place
-verifyError (verify.ConstIndexOutOfRange index) = answer 25 index
-verifyError (verify.MisalignedTarget target) = answer 26 target
-verifyError (verify.EntryOffsetMisaligned selector) = answer 27 selector
-verifyError (verify.DuplicateSelector selector) = answer 28 selector
-verifyError (verify.AccessListTooLarge selector) = answer 29 selector
-
-abbrev pub verifiedAnswer : Verified → Answer
-verifiedAnswer (verified.Valid l) = answer 0 0
-verifiedAnswer (verified.Unreadable e) = readError e
-verifiedAnswer (verified.Refused e) = verifyError e
-
 -- done is 0, with the offset
-abbrev pub offsetAnswer : Offset → Answer
-offsetAnswer (offset.At place) = answer 0 place
-offsetAnswer offset.UnknownSelector = answer 9 0
+abbrev pub offsetAnswer : Offset → Refusal
+offsetAnswer (offset.At place) = refusal 0 place
+offsetAnswer offset.UnknownSelector = refusal 9 0
 offsetAnswer (offset.Unreadable e) = readError e
-
--- done is 0, with the length written
-abbrev pub writtenAnswer : Written → Answer
-writtenAnswer (written.Done length) = answer 0 length
-writtenAnswer written.BadList = answer 49 0
-writtenAnswer written.NoRoom = answer 48 0

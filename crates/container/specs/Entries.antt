@@ -45,6 +45,10 @@ placed at e =
       end = keyed-writes + 4 + kw * 8;
     }
 
+-- all slots of an entry that was read
+abbrev pub slotsOf : EntryLayout → ℕ
+slotsOf l = l .reads .count + l .writes .count + l .«keyed_reads» .count + l .«keyed_writes» .count
+
 unfoldable pub entryAt : ℕ → Parsed Entry → EntryRead
 entryAt at short = entry.Short
 entryAt at (read e t) = entry.Done (placed at e)

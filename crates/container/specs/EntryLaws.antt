@@ -10,7 +10,8 @@ use borrow.Author.Tests.{leb-true, leb-false}
 use Rattle.words.specs.Bytes.{num, wordsOf}
 use Rattle.container.specs.Container.{Entry}
 use Rattle.container.specs.Reader.{Parsed, short, read, andThen, counted, entry}
-use Rattle.container.specs.ParseLaws.{length-words, number-there, number-short, counted-short, counted-there, no-count}
+use Rattle.words.specs.BytesLaws.{length-words}
+use Rattle.container.specs.ParseLaws.{number-there, number-short, counted-short, counted-there, no-count}
 use Rattle.container.specs.Entries.{slots, listAt, placed, entryAt}
 use Rattle.container.specs.declared.entries.Slots.{Slots}
 use Rattle.container.specs.declared.entries.CountedRead.the-variants.{Done, Short}

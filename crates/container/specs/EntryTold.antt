@@ -43,7 +43,8 @@ pub record Listing {B : Type 0} (s : List ℕ) (at : ℕ) (f : List ℕ → List
   pub within : after at words ≤ length s
   pub then : f words (drop (after at words) s) ≡ read b t
 
-listing : {B : Type 0} (s : List ℕ) (at : ℕ) (f : List ℕ → List ℕ → Parsed B) (b : B) (t : List ℕ) → andThen (counted (drop at s)) f ≡ read b t → Listing s at f b t
+listing : {B : Type 0} (s : List ℕ) (at : ℕ) (f : List ℕ → List ℕ → Parsed B) (b : B) (t : List ℕ) → andThen (counted (drop at s)) f ≡ read b t →
+    Listing s at f b t
 listing s at f b t h =
     let x = both-read (counted (drop at s)) f b t h in
     let k = counted-told s at (x .first) (x .rest) (x .is) in

@@ -61,7 +61,8 @@ module _ (s : List ℕ) (selector first n at more : ℕ) (i : Searching s select
   unfolding foundIn placed
   search-on h l f q = record { left = λ es t k. by es t k (i .left es t k) }
     where
-      by : (es : List Entry) (t : List ℕ) → entries n (drop first s) ≡ read es t → Left s selector first es t at more → Left s selector first es t (l .end) (more - 1)
+      by : (es : List Entry) (t : List ℕ) → entries n (drop first s) ≡ read es t → Left s selector first es t at more →
+          Left s selector first es t (l .end) (more - 1)
       by es t k x =
           let y = entries-cons s more at l f (x .ahead) t h (x .is) in
           let b : l .selector ≡ f .found .selector = ap (λ (m : EntryLayout). m .selector) (f .layout) in

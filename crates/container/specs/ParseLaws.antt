@@ -1,18 +1,13 @@
 -- What is read at a place of bytes. Assumes nothing.
-use mathlib.Core.Path.{_≡_, refl, ap}
+use mathlib.Core.Path.{_≡_}
 use mathlib.Core.List.{List}
-use Prim.Native.Nat.{ℕ, zero, suc, _+_, _-_, _*_, _/_, _≤_, _<_}
+use Prim.Native.Nat.{ℕ, _+_, _-_, _*_, _/_, _≤_, _<_}
 use native.Mathlib.Omega.{arith}
 use lib.ListN.{length, take, drop, length-drop}
 use lib.Seq.{drop-drop}
 use borrow.Author.Tests.{le-leb, lt-leb}
 use Rattle.words.specs.Bytes.{num, wordsOf}
 use Rattle.container.specs.Reader.{short, read, part, number, counted}
-
-pub length-words : (n : ℕ) (s : List ℕ) → length (wordsOf n s) ≡ n
-unfolding wordsOf
-length-words zero s = refl
-length-words (suc n) s = ap suc (length-words n (drop 8 s))
 
 module _ (s : List ℕ) (at : ℕ) where
   pub part-there : (n : ℕ) → n ≤ length s - at → part n (drop at s) ≡ read (take n (drop at s)) (drop (at + n) s)

@@ -4,6 +4,7 @@ use mathlib.Core.Bool.{Bool, true, false}
 use mathlib.Core.List.{List, [], _∷_}
 use Prim.Native.Nat.{ℕ, _+_, _-_, _*_, _≤_}
 use native.Mathlib.Omega.{arith}
+use native.Mathlib.Nat.{add-sub-cancel-left}
 use lib.Dec.{leb, eqb}
 use lib.ListN.{length, take, drop, length-drop}
 use lib.Seq.{length-take-le}
@@ -13,6 +14,7 @@ use Rattle.words.specs.Bytes.{num}
 use Rattle.container.specs.Container.{Container}
 use Rattle.container.specs.Canonical.{tag}
 use Rattle.container.specs.Reader.{Parsed, short, read, part, number, counted, entries, container, Read, done, refused, whole, readOf, layoutOf, readingOf}
+use Rattle.container.specs.LaidOut.{LaidOut}
 use Rattle.container.specs.ParseLaws.{part-there, part-short}
 use Rattle.container.specs.EntryTold.{both-read, after, counted-told}
 use Rattle.container.specs.EntriesLaws.{entries-told}
@@ -130,3 +132,16 @@ refused-told s x h = by (readOf s) refl h
     by : (r : Read) → readOf s ≡ r → Refused x ≡ readingOf r → readOf s ≡ refused x
     by (done c) e k = absurd (let z : _≡_ {A = ℕ} 0 1 = cc in omega arith)
     by (refused y) e k = let a : x ≡ y = cc in rw a e
+
+-- what was read, with its code as a part of the bytes
+pub laid : (s : List ℕ) (l : Layout) (r : ReadTold s l) → LaidOut s (take (l .«code_at» + l .code - l .«code_at») (drop (l .«code_at») s)) l (r .found)
+unfolding layoutOf
+laid s l r = record {
+  code = rw (r .layout, add-sub-cancel-left 8 (length (r .found .code))) (sym (r .body .code));
+  layout = r .layout;
+  entries = rw (r .layout) (r .body .entries);
+}
+
+pub code-within : (s : List ℕ) (l : Layout) → ReadTold s l → (l .«code_at» ≡ 8) × (8 + l .code ≤ length s)
+unfolding layoutOf
+code-within s l r = (ap (λ (x : Layout). x .«code_at») (r .layout), rw (ap (λ (x : Layout). x .code) (r .layout)) (r .body .room))

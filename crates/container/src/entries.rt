@@ -1,9 +1,10 @@
 // Counted lists and entries, where they stand in bytes.
 ghost use mathlib.Core.Path.{_≡_};
 ghost use Prim.Native.Nat.{_-_};
+ghost use lib.Dec.{leb};
 ghost use lib.ListN.{length, drop};
 ghost use Rattle.container.specs.Reader.{counted, entry, entries};
-ghost use Rattle.container.specs.Entries.{listAt, entryAt, endOf};
+ghost use Rattle.container.specs.Entries.{listAt, entryAt, slotsOf, endOf};
 
 // Where a list's first word stands, and how many words it has.
 pub struct Slots {
@@ -97,6 +98,29 @@ pub fn entry_at(s: &[u8], at: usize) -> EntryRead
         keyed_writes,
         end,
     })
+}
+
+// Whether an entry has at most 4096 slots in all.
+pub fn slots_within_limit(e: EntryLayout) -> bool
+    ensures { λ r. ⌜ r ≡ leb (slotsOf e) 4096 ⌝ }
+{
+    let r = e.reads.count;
+    let w = e.writes.count;
+    let kr = e.keyed_reads.count;
+    let kw = e.keyed_writes.count;
+    if 4096 < r {
+        return false;
+    }
+    if 4096 < w {
+        return false;
+    }
+    if 4096 < kr {
+        return false;
+    }
+    if 4096 < kw {
+        return false;
+    }
+    r + w + kr + kw <= 4096
 }
 
 // The place after n entries that stand from a place on.

@@ -1,11 +1,4 @@
-// Containers: reading, writing and checking them.
-pub mod checks;
+// Containers, read where they stand in bytes.
 pub mod entries;
-pub mod marks;
 pub mod offsets;
 pub mod reader;
-pub mod scan;
-pub mod starts;
-pub mod targets;
-pub mod verify;
-pub mod writer;

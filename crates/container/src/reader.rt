@@ -5,9 +5,10 @@ ghost use Rattle.container.specs.Reader.{container, whole, readOf, readi
 ghost use Rattle.container.specs.Answers.{readError};
 use super::entries::CountedRead;
 use super::entries::End;
+use words::refusal::Refusal;
 
 // QVM1
-const TAG: u64 = 0x51564D31;
+pub const TAG: u64 = 0x5156_4D31;
 
 // How many code bytes, constants and entries, and where each part begins.
 pub struct Layout {
@@ -31,23 +32,13 @@ pub enum Reading {
 }
 
 impl ReadError {
-    pub fn number(self) -> u64
-        ensures { λ r. ⌜ r ≡ readError self .number ⌝ }
+    pub fn refusal(self) -> Refusal
+        ensures { λ r. ⌜ r ≡ readError self ⌝ }
     {
         match self {
-            ReadError::BadTag => 41,
-            ReadError::Short => 42,
-            ReadError::Trailing => 43,
-        }
-    }
-
-    pub fn argument(self) -> u64
-        ensures { λ r. ⌜ r ≡ readError self .argument ⌝ }
-    {
-        match self {
-            ReadError::BadTag => 0,
-            ReadError::Short => 0,
-            ReadError::Trailing => 0,
+            ReadError::BadTag => Refusal::numbered(41),
+            ReadError::Short => Refusal::numbered(42),
+            ReadError::Trailing => Refusal::numbered(43),
         }
     }
 }

@@ -21,11 +21,14 @@ paste-more d t u x y end m k lx ly h p q =
     let tx : take m x ≡ x = take-all m x (omega arith) in
     let ty : take k y ≡ y = take-all k y (omega arith) in
     let txy : take (m + k) (x ++ y) ≡ x ++ y = take-all (m + k) (x ++ y) (omega (arith, length-append x y)) in
-    let front : take (end + m) t ≡ take end d ++ x = ap (take (end + m)) p ∙ take-paste d end x m (omega arith) (omega arith) ∙ ap (λ (l : List ℕ). take end d ++ l) tx in
+    let front : take (end + m) t ≡ take end d ++ x =
+    ap (take (end + m)) p ∙ take-paste d end x m (omega arith) (omega arith) ∙ ap (λ (l : List ℕ). take end d ++ l) tx in
     let n : end + m + k ≡ end + (m + k) = omega arith in
     let rest : drop (end + m + k) t ≡ drop (end + (m + k)) d =
-    sym (drop-drop k (end + m) t) ∙ ap (λ (l : List ℕ). drop k (drop (end + m) l)) p ∙ ap (drop k) (drop-paste d end x m (omega arith) (omega arith)) ∙ drop-drop k (end + m) d ∙ ap (λ (j : ℕ). drop j d) n in
-    q ∙ (λ i. (front i ++ ty i) ++ rest i) ∙ ap (λ (l : List ℕ). l ++ drop (end + (m + k)) d) (append-assoc (take end d) x y) ∙ (λ i. (take end d ++ sym txy i) ++ drop (end + (m + k)) d)
+    sym (drop-drop k (end + m) t) ∙ ap (λ (l : List ℕ). drop k (drop (end + m) l)) p ∙
+    ap (drop k) (drop-paste d end x m (omega arith) (omega arith)) ∙ drop-drop k (end + m) d ∙ ap (λ (j : ℕ). drop j d) n in
+    q ∙ (λ i. (front i ++ ty i) ++ rest i) ∙ ap (λ (l : List ℕ). l ++ drop (end + (m + k)) d) (append-assoc (take end d) x y) ∙
+    (λ i. (take end d ++ sym txy i) ++ drop (end + (m + k)) d)
 
 module _ (e : Effect) (end : ℕ) (t : List ℕ) where
   pub no-room : length t < end + length (e .bytes) + 13 → Appended e end t t NoRoom
@@ -61,7 +64,8 @@ module _ (e : Effect) (end : ℕ) (t : List ℕ) where
         let qc : c ≡ paste t end ((x ++ y) ++ w) (n + 1 + 8) =
         paste-more t b c (x ++ y) w end (n + 1) 8 (omega (arith, length-append x y)) lw (omega arith) qb (pc ∙ ap (λ (o : ℕ). paste b o w 8) i) in
         let qd : d ≡ paste t end (((x ++ y) ++ w) ++ z) (n + 1 + 8 + 4) =
-        paste-more t c d ((x ++ y) ++ w) z end (n + 1 + 8) 4 (omega (arith, length-append x y, length-append (x ++ y) w)) lz (omega arith) qc (pd ∙ ap (λ (o : ℕ). paste c o z 4) j) in
+        paste-more t c d ((x ++ y) ++ w) z end (n + 1 + 8) 4 (omega (arith, length-append x y, length-append (x ++ y) w)) lz (omega arith)
+        qc (pd ∙ ap (λ (o : ℕ). paste c o z 4) j) in
         let whole : ((x ++ y) ++ w) ++ z ≡ x ++ (e .kind ∷ (w ++ z)) = ap (λ (v : List ℕ). ((x ++ v) ++ w) ++ z) kind-byte ∙ simp append-assoc in
         qd ∙ (λ k. paste t end (whole k) (m k))
 
@@ -72,6 +76,7 @@ module _ (e : Effect) (end : ℕ) (t : List ℕ) where
         let o : end + length (e .bytes) + 13 ≡ end + n = omega arith in
         let r : length (recordOf e) ≡ n = length-record e in
         let f : take (end + n) d ≡ take end t ++ recordOf e =
-        ap (take (end + n)) p ∙ take-paste t end (recordOf e) n (omega arith) (omega arith) ∙ ap (λ (x : List ℕ). take end t ++ x) (take-all n (recordOf e) (omega arith)) in
+        ap (take (end + n)) p ∙ take-paste t end (recordOf e) n (omega arith) (omega arith) ∙
+        ap (λ (x : List ℕ). take end t ++ x) (take-all n (recordOf e) (omega arith)) in
         let b : drop (end + n) d ≡ drop (end + n) t = ap (drop (end + n)) p ∙ drop-paste t end (recordOf e) n (omega arith) (omega arith) in
         record { answer = rw (le-leb (end + length (e .bytes) + 13) (length t) l); bytes = rw o (f, b) }

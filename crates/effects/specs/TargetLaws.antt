@@ -117,7 +117,8 @@ hit-here g log t e es (q, b) = go (alikeOf t (g .kind) (length (g .bytes))) refl
     is : alikeOf (trailerOf e es) (g .kind) (length (g .bytes)) ≡ alikeOf t (g .kind) (length (g .bytes))
     is = ap (λ (u : Trailer). alikeOf u (g .kind) (length (g .bytes))) (sym q)
 
-    go : (a : Bool) → alikeOf t (g .kind) (length (g .bytes)) ≡ a → isTarget g (targetOf e) ≡ both a (same (take (length (g .bytes)) (drop (t .from) log)) (g .bytes))
+    go : (a : Bool) → alikeOf t (g .kind) (length (g .bytes)) ≡ a →
+        isTarget g (targetOf e) ≡ both a (same (take (length (g .bytes)) (drop (t .from) log)) (g .bytes))
     go true r =
         let w = alike-within t (g .kind) (length (g .bytes)) r in
         let p = ap (take (length (g .bytes))) (sym b) ∙ take-take (length (g .bytes)) (t .length) (drop (t .from) log) w in
@@ -126,8 +127,8 @@ hit-here g log t e es (q, b) = go (alikeOf t (g .kind) (length (g .bytes))) refl
 
 -- bytes compared one by one, the last first
 
-pub same-from : (log ys : List ℕ) (from i : ℕ) → ((k : ℕ) → i ≤ k → k < length ys → getD log (from + k) 0 ≡ getD ys k 0) → getD log (from + (i - 1)) 0 ≡ getD ys (i - 1) 0
-    → (k : ℕ) → i - 1 ≤ k → k < length ys → getD log (from + k) 0 ≡ getD ys k 0
+pub same-from : (log ys : List ℕ) (from i : ℕ) → ((k : ℕ) → i ≤ k → k < length ys → getD log (from + k) 0 ≡ getD ys k 0) →
+    getD log (from + (i - 1)) 0 ≡ getD ys (i - 1) 0 → (k : ℕ) → i - 1 ≤ k → k < length ys → getD log (from + k) 0 ≡ getD ys k 0
 same-from log ys from i f e k l m = go (eq-or-lt-of-le l)
   where
     go : (i - 1 ≡ k) ⊎ (i - 1 < k) → getD log (from + k) 0 ≡ getD ys k 0
@@ -151,7 +152,8 @@ module _ (log ys : List ℕ) (from : ℕ) (h : from + length ys ≤ length log) 
 
 -- what a record says of all
 
-pub known-told : (g : Target) (log : List ℕ) (t : Trailer) (e : Effect) (es : List Effect) → Tells log t e es → knownIn g (e ∷ es) ≡ either (hits g t log) (knownIn g es)
+pub known-told : (g : Target) (log : List ℕ) (t : Trailer) (e : Effect) (es : List Effect) → Tells log t e es →
+    knownIn g (e ∷ es) ≡ either (hits g t log) (knownIn g es)
 unfolding knownIn
 known-told g log t e es k = rw (hit-here g log t e es k)
 

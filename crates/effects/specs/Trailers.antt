@@ -15,7 +15,7 @@ unfoldable pub trailerOf : Effect → List Effect → Trailer
 trailerOf e es = record { kind = e .kind; word = e .word; length = length (e .bytes); from = length (logOf es) }
 
 -- r tells of the record that ends at a place, and lies before it whatever the bytes are
-pub record Behind (log : List ℕ) (at : ℕ) (r : Trailer) : Type 0 where
+pub record EndingAt (log : List ℕ) (at : ℕ) (r : Trailer) : Type 0 where
   pub less : r .from < at
   pub within : r .from + r .length ≤ at
   pub told : (e : Effect) (es : List Effect) → Small (e ∷ es) → take at log ≡ logOf (e ∷ es) → r ≡ trailerOf e es

@@ -6,7 +6,7 @@ use native.Mathlib.Omega.{arith}
 use lib.ListN.{length, take, drop}
 use lib.Seq.{length-take-le}
 use Rattle.effects.specs.Log.{Effect, logOf, Small}
-use Rattle.effects.specs.Trailers.{trailerOf, Behind}
+use Rattle.effects.specs.Trailers.{trailerOf, EndingAt}
 use Rattle.effects.specs.LogLaws.{log-none, newest}
 use Rattle.effects.specs.declared.trailer.Trailer.{Trailer}
 
@@ -45,7 +45,7 @@ record Last {A : Type 0} (f : List Effect → A) (g : A → A) (log : List ℕ) 
   same : f es ≡ g (f (head ∷ rest))
 
 module _ {A : Type 0} {f : List Effect → A} {g : A → A} {log : List ℕ} {end at : ℕ} (w : Walked f g log end at) (l : at ≤ length log) (h : 0 < at)
-    (t : Trailer) (b : Behind log at t) where
+    (t : Trailer) (b : EndingAt log at t) where
   last : (es : List Effect) → Small es → take end log ≡ logOf es → Last f g log t es
   unfolding trailerOf logOf
   last es s e = let p = w .left es s e in go (p .older) (p .small) (p .bytes) (p .same)
@@ -66,8 +66,13 @@ module _ {A : Type 0} {f : List Effect → A} {g : A → A} {log : List ℕ} {en
 
   -- past a record: what the older ones answer gives the answer by g′
   pub walk-turn : (g′ : A → A) → ((e : Effect) (es : List Effect) → Tells log t e es → g (f (e ∷ es)) ≡ g′ (f es)) → Walked f g′ log end (t .from)
-  walk-turn g′ k = record { left = λ es s e. let n = last es s e in record { older = n .rest; small = n .small; bytes = n .front; same = n .same ∙ k (n .head) (n .rest) (n .tells) } }
+  walk-turn g′ k = record {
+    left = λ es s e.
+        let n = last es s e in
+        record { older = n .rest; small = n .small; bytes = n .front; same = n .same ∙ k (n .head) (n .rest) (n .tells) };
+  }
 
   -- at a record that decides
-  pub walk-stop : (v : A) → ((e : Effect) (es : List Effect) → Tells log t e es → g (f (e ∷ es)) ≡ v) → (es : List Effect) → Small es → take end log ≡ logOf es → v ≡ f es
+  pub walk-stop : (v : A) → ((e : Effect) (es : List Effect) → Tells log t e es → g (f (e ∷ es)) ≡ v) →
+      (es : List Effect) → Small es → take end log ≡ logOf es → v ≡ f es
   walk-stop v k es s e = let n = last es s e in sym (n .same ∙ k (n .head) (n .rest) (n .tells))

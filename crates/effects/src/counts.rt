@@ -31,7 +31,7 @@ fn count(log: &[u8], end: usize, all: bool) -> usize
     let mut n = 0;
     let mut at = end;
     while at > 0 {
-        let t = crate::trailer::behind(log, at);
+        let t = crate::trailer::record_ending_at(log, at);
         n += weight(t, all);
         at = t.from;
     }

@@ -46,14 +46,15 @@ fn alike(t: Trailer, kind: u8, size: usize) -> bool
 // Whether the log's first `end` bytes hold a target of this kind and these bytes.
 pub fn known(log: &[u8], end: usize, kind: u8, target: &[u8]) -> bool
     requires { ⌜ end ≤ length (now log) ⌝ }
-    ensures { λ r. ⌜ ((es : List Effect) → Small es → take end (now (log .entry)) ≡ logOf es → r ≡ knownIn (record { kind = kind; bytes = now (target .entry) }) es) ⌝ }
+    ensures { λ r. ⌜ ((es : List Effect) → Small es → take end (now (log .entry)) ≡ logOf es →
+        r ≡ knownIn (record { kind = kind; bytes = now (target .entry) }) es) ⌝ }
 {
     let mut at = end;
     'walk: loop {
         if at == 0 {
             break 'walk false;
         }
-        let t = crate::trailer::behind(log, at);
+        let t = crate::trailer::record_ending_at(log, at);
         at = t.from;
         if !alike(t, kind, target.len()) {
             continue 'walk;
@@ -78,7 +79,7 @@ pub fn any_target(log: &[u8], end: usize) -> bool
 {
     let mut at = end;
     while at > 0 {
-        let t = crate::trailer::behind(log, at);
+        let t = crate::trailer::record_ending_at(log, at);
         if durable(t) {
             return true;
         }

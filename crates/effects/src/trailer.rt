@@ -2,7 +2,7 @@
 ghost use mathlib.Core.Path.{_≡_};
 ghost use Prim.Native.Nat.{_≤_, _<_};
 ghost use lib.ListN.{length};
-ghost use Rattle.effects.specs.Trailers.{Behind};
+ghost use Rattle.effects.specs.Trailers.{EndingAt};
 
 // A record's kind, word and number of bytes, and where it begins.
 pub struct Trailer {
@@ -25,9 +25,9 @@ fn nothing() -> Trailer
 }
 
 // The record that ends at a place of a log.
-pub fn behind(log: &[u8], at: usize) -> Trailer
+pub fn record_ending_at(log: &[u8], at: usize) -> Trailer
     requires { ⌜ (0 < at) × (at ≤ length (now log)) ⌝ }
-    ensures { λ r. ⌜ Behind (now (log .entry)) at r ⌝ }
+    ensures { λ r. ⌜ EndingAt (now (log .entry)) at r ⌝ }
 {
     if at < 13 {
         return nothing();

@@ -5,12 +5,12 @@ use mathlib.Core.Option.{Option}
 use Prim.Native.Nat.{ℕ}
 use lib.Dec.{eqb}
 use Rattle.container.specs.Container.{Container}
-use Rattle.container.specs.Writer as writer
+use Rattle.container_writer.specs.Writer as writer
 use Rattle.tables.specs.Rows.{Row}
 use Rattle.changes.specs.ChangeList as changes
 use Rattle.opening.specs.Opening.{Input, Lent}
 use Rattle.interp.specs.Call.{callOf}
-use Rattle.interp.specs.declared.call.Host.{Host}
+use Rattle.machine.specs.declared.host.Host.{Host}
 use Rattle.gateway.specs.Boundary.{Told, toldOf}
 use Rattle.gateway.specs.Words.{answerWords, writtenWords, listWords}
 

@@ -1,4 +1,7 @@
+-- definitions
 pub mod Boundary
-pub mod BoundaryLaws
 pub mod Words
 pub mod Gateway
+-- laws
+pub mod BoundaryLaws
+pub mod GatewayLaws

@@ -1,12 +1,14 @@
 // Calls: opened and run over lent buffers.
 ghost use mathlib.Core.Path.{_≡_};
-ghost use Rattle.keys.specs.Bridge as tables;
-ghost use Rattle.interp.specs.Call.{lentAs, entryInput, genesisInput};
+ghost use Rattle.keys.specs.Lent as tables;
+ghost use Rattle.opening.specs.Opened.{entryCall, genesisCall, inputOf};
+ghost use Rattle.interp.specs.Call.{lentAs};
 ghost use Rattle.gateway.specs.Boundary.{told};
 ghost use Rattle.gateway.specs.Words.{answerWords};
 ghost use Rattle.gateway.specs.Gateway.{hostAs, isPresent, gatewayOf};
 use interp::answer::Answer;
-use interp::call::Host;
+use machine::host::Host;
+use opening::open::Call;
 
 // The words of a call's answer.
 const WORDS: usize = 23;
@@ -14,11 +16,12 @@ const WORDS: usize = 23;
 fn answer_words(a: Answer) -> [u64; 23]
     ensures { λ r. ⌜ r ≡ answerWords a ⌝ }
 {
+    let end = a.end;
     let file = a.regs;
     let r = file.r;
     [
-        a.number,
-        a.argument,
+        end.number,
+        end.argument,
         a.fetches,
         a.used,
         a.fetched,
@@ -41,6 +44,61 @@ fn answer_words(a: Answer) -> [u64; 23]
         r[14],
         r[15],
     ]
+}
+
+// A call opened and run, and the words of its answer; nothing is touched where they have no room.
+fn answer_call(
+    call: Call,
+    container: &[u8],
+    store: &[u8],
+    loader: &[u8],
+    replies: &[u8],
+    preload: &[u8],
+    memory: &mut [u8],
+    stack: &mut [u64],
+    starts: &mut [u8],
+    changes: &mut [u8],
+    fetched: &mut [u8],
+    reads: &mut [u8],
+    writes: &mut [u8],
+    fresh: &mut [u8],
+    log: &mut [u8],
+    answer: &mut [u64],
+) -> u32
+    ensures { λ r. ⌜ told r (now (answer .exit))
+        (lentAs (now (memory .exit)) (now (stack .exit))
+        (tables.bufs (now (changes .exit)) (now (fetched .exit)) (now (reads .exit)) (now (writes .exit)) (now (fresh .exit)))
+        (now (log .exit)) (now (starts .exit)))
+        ≡ gatewayOf
+        (inputOf call
+        (now (container .entry)) (now (store .entry)) (now (loader .entry)) (now (replies .entry)) (now (preload .entry)))
+        (lentAs (now (memory .entry)) (now (stack .entry))
+        (tables.bufs (now (changes .entry)) (now (fetched .entry)) (now (reads .entry)) (now (writes .entry)) (now (fresh .entry)))
+        (now (log .entry)) (now (starts .entry)))
+        (now (answer .entry)) ⌝ }
+{
+    if answer.len() < WORDS {
+        return 48;
+    }
+    let a = interp::call::run(
+        call,
+        container,
+        store,
+        loader,
+        replies,
+        preload,
+        memory,
+        stack,
+        starts,
+        changes,
+        fetched,
+        reads,
+        writes,
+        fresh,
+        log,
+    );
+    let words = answer_words(a);
+    super::answer::put(answer, &words)
 }
 
 // An entry's call.
@@ -68,23 +126,27 @@ pub extern "C" fn qvm_for_entry(
     log: &mut [u8],
     answer: &mut [u64],
 ) -> u32
-    ensures { λ r. ⌜ told r (now (answer .exit)) (lentAs (now (memory .exit)) (now (stack .exit)) (tables.bufs (now (changes .exit)) (now (fetched .exit)) (now (reads .exit)) (now (writes .exit)) (now (fresh .exit))) (now (log .exit)) (now (starts .exit))) ≡ gatewayOf (entryInput (now (container .entry)) selector limit (hostAs genesis «ml_signed» «slh_signed») (now (store .entry)) (isPresent «has_loader») (now (loader .entry)) (now (replies .entry)) (now (preload .entry))) (lentAs (now (memory .entry)) (now (stack .entry)) (tables.bufs (now (changes .entry)) (now (fetched .entry)) (now (reads .entry)) (now (writes .entry)) (now (fresh .entry))) (now (log .entry)) (now (starts .entry))) (now (answer .entry)) ⌝ }
+    ensures { λ r. ⌜ told r (now (answer .exit))
+        (lentAs (now (memory .exit)) (now (stack .exit))
+        (tables.bufs (now (changes .exit)) (now (fetched .exit)) (now (reads .exit)) (now (writes .exit)) (now (fresh .exit)))
+        (now (log .exit)) (now (starts .exit)))
+        ≡ gatewayOf
+        (inputOf (entryCall selector limit (hostAs genesis «ml_signed» «slh_signed») (isPresent «has_loader»))
+        (now (container .entry)) (now (store .entry)) (now (loader .entry)) (now (replies .entry)) (now (preload .entry)))
+        (lentAs (now (memory .entry)) (now (stack .entry))
+        (tables.bufs (now (changes .entry)) (now (fetched .entry)) (now (reads .entry)) (now (writes .entry)) (now (fresh .entry)))
+        (now (log .entry)) (now (starts .entry)))
+        (now (answer .entry)) ⌝ }
 {
-    if answer.len() < WORDS {
-        return 48;
-    }
     let host = Host {
         genesis,
         ml_signed,
         slh_signed,
     };
-    let a = interp::call::for_entry(
+    answer_call(
+        Call::for_entry(selector, limit, host, has_loader != 0),
         container,
-        selector,
-        limit,
-        host,
         store,
-        has_loader != 0,
         loader,
         replies,
         preload,
@@ -97,9 +159,8 @@ pub extern "C" fn qvm_for_entry(
         writes,
         fresh,
         log,
-    );
-    let words = answer_words(a);
-    super::answer::put(answer, &words)
+        answer,
+    )
 }
 
 // The call of the genesis entry.
@@ -126,22 +187,27 @@ pub extern "C" fn qvm_for_genesis(
     log: &mut [u8],
     answer: &mut [u64],
 ) -> u32
-    ensures { λ r. ⌜ told r (now (answer .exit)) (lentAs (now (memory .exit)) (now (stack .exit)) (tables.bufs (now (changes .exit)) (now (fetched .exit)) (now (reads .exit)) (now (writes .exit)) (now (fresh .exit))) (now (log .exit)) (now (starts .exit))) ≡ gatewayOf (genesisInput (now (container .entry)) limit (hostAs genesis «ml_signed» «slh_signed») (now (store .entry)) (isPresent «has_loader») (now (loader .entry)) (now (replies .entry)) (now (preload .entry))) (lentAs (now (memory .entry)) (now (stack .entry)) (tables.bufs (now (changes .entry)) (now (fetched .entry)) (now (reads .entry)) (now (writes .entry)) (now (fresh .entry))) (now (log .entry)) (now (starts .entry))) (now (answer .entry)) ⌝ }
+    ensures { λ r. ⌜ told r (now (answer .exit))
+        (lentAs (now (memory .exit)) (now (stack .exit))
+        (tables.bufs (now (changes .exit)) (now (fetched .exit)) (now (reads .exit)) (now (writes .exit)) (now (fresh .exit)))
+        (now (log .exit)) (now (starts .exit)))
+        ≡ gatewayOf
+        (inputOf (genesisCall limit (hostAs genesis «ml_signed» «slh_signed») (isPresent «has_loader»))
+        (now (container .entry)) (now (store .entry)) (now (loader .entry)) (now (replies .entry)) (now (preload .entry)))
+        (lentAs (now (memory .entry)) (now (stack .entry))
+        (tables.bufs (now (changes .entry)) (now (fetched .entry)) (now (reads .entry)) (now (writes .entry)) (now (fresh .entry)))
+        (now (log .entry)) (now (starts .entry)))
+        (now (answer .entry)) ⌝ }
 {
-    if answer.len() < WORDS {
-        return 48;
-    }
     let host = Host {
         genesis,
         ml_signed,
         slh_signed,
     };
-    let a = interp::call::for_genesis(
+    answer_call(
+        Call::for_genesis(limit, host, has_loader != 0),
         container,
-        limit,
-        host,
         store,
-        has_loader != 0,
         loader,
         replies,
         preload,
@@ -154,7 +220,6 @@ pub extern "C" fn qvm_for_genesis(
         writes,
         fresh,
         log,
-    );
-    let words = answer_words(a);
-    super::answer::put(answer, &words)
+        answer,
+    )
 }

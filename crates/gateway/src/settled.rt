@@ -27,7 +27,15 @@ pub extern "C" fn qvm_change_list(
     out: &mut [u8],
     answer: &mut [u64],
 ) -> u32
-    ensures { λ r. ⌜ told r (now (answer .exit)) (now (out .exit)) ≡ changesOf (listOf (record { changes = now (changes .entry); count = count; store = now (store .entry); present = isPresent «has_loader»; loader = now (loader .entry) })) (now (out .entry)) (now (answer .entry)) ⌝ }
+    ensures { λ r. ⌜ told r (now (answer .exit)) (now (out .exit)) ≡
+        changesOf (listOf
+        (record {
+          changes = now (changes .entry);
+          count = count;
+          store = now (store .entry);
+          present = isPresent «has_loader»;
+          loader = now (loader .entry);
+        })) (now (out .entry)) (now (answer .entry)) ⌝ }
 {
     if answer.len() < 2 {
         return 48;

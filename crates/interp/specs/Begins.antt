@@ -3,15 +3,16 @@ use mathlib.Core.Path.{_≡_}
 use mathlib.Core.List.{List, _++_}
 use Prim.Native.Nat.{ℕ}
 use lib.ListN.{length, take, drop}
-use Rattle.container.specs.Marks.{Marks}
+use Rattle.starts.specs.Marks.{Marks}
 use Rattle.keys.specs.Opening.{noRows}
 use Rattle.opening.specs.Opening.{Lent, startsOf}
 use Rattle.interp.specs.Call.{wiped}
+use Rattle.machine.specs.RunParts.{run}
 use Rattle.machine.specs.declared.run.Run.{Run}
 
 -- nothing stacked, known or posted, no reply used
 abbrev pub firstRun : (offset used limit : ℕ) → Run
-firstRun offset used limit = record { pc = offset; depth = 0; counts = noRows; log = 0; events = 0; posted = 0; keyed = 0; replies = 0; meter = record { used = used; limit = limit }; fetches = 0 }
+firstRun offset used limit = run offset 0 noRows 0 0 0 0 0 (record { used = used; limit = limit }) 0
 
 -- a is b with all buffers zeroed, then the starts marked and the preload loaded
 pub record Begins (code pre : List ℕ) (b a : Lent) : Type 0 where

@@ -1,18 +1,18 @@
 -- A call: its opening, its run, and what stands in the answer and in every lent buffer at its end (document 01, Lent input and what is left).
-use mathlib.Core.Bool.{Bool, true, false}
 use mathlib.Core.List.{List, _++_}
 use Prim.Native.Nat.{ℕ, suc, _-_}
 use lib.ListN.{length, replicate}
+use Rattle.words.specs.Refusals.{refusal}
+use Rattle.words.specs.declared.refusal.Refusal.{Refusal}
 use Rattle.tables.specs.Rows.{bytesOf}
-use Rattle.keys.specs.Bridge as tables
+use Rattle.keys.specs.Lent as tables
 use Rattle.effects.specs.Log.{logOf}
 use Rattle.state.specs.Regs.{cleared}
 use Rattle.machine.specs.Machine.{Machine}
 use Rattle.machine.specs.Turns.{End, halted, faulted, runOf}
-use Rattle.machine.specs.Bridge.{Bufs, bufs}
+use Rattle.machine.specs.Lent.{Bufs, bufs}
 use Rattle.opening.specs.Opening.{Input, Lent, Opening, refuse, start, openingOf}
 use Rattle.interp.specs.declared.answer.Answer.{Answer}
-use Rattle.interp.specs.declared.call.Host.{Host}
 
 -- an answer and the lent buffers at the end
 pub record Called : Type 0 where
@@ -22,13 +22,13 @@ pub record Called : Type 0 where
 abbrev pub called : Answer → Lent → Called
 called a b = record { answer = a; lent = b }
 
--- zero past number, argument and fetches
-abbrev pub refusedAs : (number argument fetches : ℕ) → Answer
-refusedAs n a k = record { number = n; argument = a; fetches = k; used = 0; fetched = 0; changes = 0; log = 0; regs = cleared }
+-- zero past how it ended and its fetches
+abbrev pub refusedAs : Refusal → (fetches : ℕ) → Answer
+refusedAs x k = record { end = x; fetches = k; used = 0; fetched = 0; changes = 0; log = 0; regs = cleared }
 
 -- registers, used, fetches, keys fetched from the loader, keys stored, bytes of the log
 abbrev pub haltedAs : Machine → Answer
-haltedAs m = record { number = 0; argument = 0; fetches = m .fetches; used = m .used; fetched = length (m .keys .fetched); changes = length (m .keys .changes); log = length (logOf (m .effects)); regs = m .regs }
+haltedAs m = record { end = refusal 0 0; fetches = m .fetches; used = m .used; fetched = length (m .keys .fetched); changes = length (m .keys .changes); log = length (logOf (m .effects)); regs = m .regs }
 
 -- as many zeroes
 abbrev pub wiped : List ℕ → List ℕ
@@ -55,22 +55,12 @@ keptOf m b =
 
 abbrev pub ending : End → Lent → Called
 ending (halted m) b = called (haltedAs m) (keptOf m b)
-ending (faulted n a k) b = called (refusedAs n a k) (wipedAll b)
+ending (faulted x k) b = called (refusedAs x k) (wipedAll b)
 
 -- a refused opening counts no fetch and leaves every buffer as it is; an accepted one runs, L - D + 1 turns at most
 unfoldable pub running : Opening → Lent → Called
-running (refuse n) b = called (refusedAs n 0 0) b
+running (refuse x) b = called (refusedAs x 0) b
 running (start e m) b = ending (runOf (suc (e .limit - m .used)) e m) b
 
 unfoldable pub callOf : Input → Lent → Called
 callOf x b = running (openingOf x b) b
-
--- ---- the two calls
-
--- an entry's call, by a selector
-abbrev pub entryInput : (container : List ℕ) (selector limit : ℕ) → Host → (store : List ℕ) (present : Bool) (loader replies preload : List ℕ) → Input
-entryInput s sel limit h st p ld rp pre = record { container = s; entry = true; selector = sel; limit = limit; genesis = h .genesis; ml-signed = h .«ml_signed»; slh-signed = h .«slh_signed»; store = st; present = p; loader = ld; replies = rp; preload = pre }
-
--- the call of the genesis entry
-abbrev pub genesisInput : (container : List ℕ) (limit : ℕ) → Host → (store : List ℕ) (present : Bool) (loader replies preload : List ℕ) → Input
-genesisInput s limit h st p ld rp pre = record { container = s; entry = false; selector = h .genesis; limit = limit; genesis = h .genesis; ml-signed = h .«ml_signed»; slh-signed = h .«slh_signed»; store = st; present = p; loader = ld; replies = rp; preload = pre }

@@ -5,9 +5,9 @@ use Prim.Native.Nat.{ℕ, _+_, _-_, _*_, _/_, _≤_}
 use native.Mathlib.Omega.{arith}
 use lib.ListN.{length, take, drop, length-drop}
 use lib.Seq.{length-take-le}
-use Rattle.words.specs.Bytes.{wordsOf}
+use Rattle.words.specs.Bytes.{wordsOf, wordsIn}
 use Rattle.meter.specs.Prices.{dispatchPrice}
-use Rattle.crypto.specs.declared.check.Host.{Host}
+use Rattle.machine.specs.declared.host.Host.{Host}
 use Rattle.machine.specs.declared.run.Run.{Run}
 use Rattle.container.specs.Reader.{readOf}
 use Rattle.opening.specs.Opening.{Lent, Opening, envOf, machineFor, openingRead}
@@ -15,7 +15,7 @@ use Rattle.opening.specs.Opened.{Standing}
 use Rattle.opening.specs.declared.open.Opened.{Opened}
 use Rattle.interp.specs.Begins.{firstRun}
 use Rattle.interp.specs.Call.{called, running}
-use Rattle.interp.specs.Launched.{Given, givenTo, wordsIn, Launch, Drives}
+use Rattle.interp.specs.Launched.{Given, givenTo, Launch, Drives}
 use Rattle.interp.specs.Entered.{Entered}
 use Rattle.interp.specs.declared.answer.Answer.{Answer}
 
@@ -48,14 +48,14 @@ pub record Within (o : Opened) (s : List ℕ) : Type 0 where
   pub consts : o .layout .«consts_at» + o .layout .consts * 8 ≤ length s
   pub reads : o .entry .reads .at + o .entry .reads .count * 8 ≤ length s
   pub writes : o .entry .writes .at + o .entry .writes .count * 8 ≤ length s
-  pub kreads : o .entry .«keyed_reads» .at + o .entry .«keyed_reads» .count * 8 ≤ length s
-  pub kwrites : o .entry .«keyed_writes» .at + o .entry .«keyed_writes» .count * 8 ≤ length s
+  pub keyed-reads : o .entry .«keyed_reads» .at + o .entry .«keyed_reads» .count * 8 ≤ length s
+  pub keyed-writes : o .entry .«keyed_writes» .at + o .entry .«keyed_writes» .count * 8 ≤ length s
 
 module _ (o : Opened) (limit : ℕ) (host : Host) (s st ld rp pre : List ℕ) (b : Lent) (x : Entered o limit host s st ld rp pre b) where
   pub within : Within o s
   within =
       let f = x .found in
-      let w : Within o (x .input .container) = record { code = f .code-within; consts = f .consts .within; reads = f .reads .within; writes = f .writes .within; kreads = f .keyed-reads .within; kwrites = f .keyed-writes .within } in
+      let w : Within o (x .input .container) = record { code = f .code-within; consts = f .consts .within; reads = f .reads .within; writes = f .writes .within; keyed-reads = f .keyed-reads .within; keyed-writes = f .keyed-writes .within } in
       rw (x .container) at w
 
   -- what stands in the input's bytes stands in these
@@ -88,8 +88,7 @@ module _ (o : Opened) (limit : ℕ) (host : Host) (s st ld rp pre : List ℕ) (b
           loader-whole = λ p. rw (x .loader) at (f .loader (sym (f .present) ∙ p));
           replies = x .replies;
           preload = x .preload;
-          ml = x .ml;
-          slh = x .slh;
+          host = x .host-is;
           start = q ∙ (λ i. firstRun (f .offset i) ((f .used ∙ ap dispatchPrice (sym n)) i) (sym (x .limit-is) i));
           offset-small = f .offset-small;
           afford = rw n (f .afford);

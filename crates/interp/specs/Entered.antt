@@ -4,7 +4,7 @@ use mathlib.Core.List.{List}
 use Prim.Native.Nat.{ℕ}
 use lib.ListN.{length}
 use Rattle.container.specs.Reader.{readOf}
-use Rattle.crypto.specs.declared.check.Host.{Host}
+use Rattle.machine.specs.declared.host.Host.{Host}
 use Rattle.opening.specs.Opening.{Input, Lent, openingRead}
 use Rattle.opening.specs.Opened.{Found}
 use Rattle.opening.specs.declared.open.Opened.{Opened}
@@ -21,8 +21,7 @@ pub record Entered (o : Opened) (limit : ℕ) (host : Host) (s st ld rp pre : Li
   pub replies : input .replies ≡ rp
   pub preload : input .preload ≡ pre
   pub limit-is : input .limit ≡ limit
-  pub ml : input .ml-signed ≡ host .«ml_signed»
-  pub slh : input .slh-signed ≡ host .«slh_signed»
+  pub host-is : input .host ≡ host
   pub memory-size : length (b .run .memory) ≡ 65536
   pub stack-size : length (b .run .stack) ≡ 1024
   pub map-size : length (b .map) ≡ 8192

@@ -14,7 +14,8 @@ use Rattle.state.specs.declared.regs.RegFile.{RegFile}
 use Rattle.machine.specs.Machine.{Env}
 use Rattle.machine.specs.Steps.{Step, fault}
 use Rattle.machine.specs.Turns.{stepOf, fetchOf, turnOf}
-use Rattle.machine.specs.Bridge.{Bufs, machineOf, Sound}
+use Rattle.machine.specs.Lent.{Bufs}
+use Rattle.machine.specs.Sound.{machineOf, Sound}
 use Rattle.machine.specs.declared.run.Run.{Run}
 use Rattle.interp.specs.declared.fetch.Fetched.{Fetched}
 use Rattle.interp.specs.declared.fetch.Fetched.the-variants.{Done, Refused}
@@ -35,7 +36,7 @@ StepsFrom e s d f b k x i q = (x ≡ stepOf e i (machineOf s q f b)) × Sound e 
 -- a step with the decoded instruction, or the fault that the turn comes to
 abbrev pub Told : Decoded → Env → List ℕ → ℕ → RegFile → Bufs → (fetches : ℕ) → Step → Fetched → Type 0
 Told i e s d f b k x (Done q) = StepsFrom e s d f b k x (instructionIn i) q
-Told i e s d f b k x (Refused n a) = (x ≡ fault n a) × (0 < n)
+Told i e s d f b k x (Refused w) = (x ≡ fault w) × (0 < w .number)
 
 -- the rest of a fetch, from a run that counts it
 abbrev pub Onward : Decoded → Run → Fetched → Type 0

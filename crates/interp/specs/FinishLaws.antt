@@ -6,16 +6,18 @@ use native.Mathlib.Omega.{arith}
 use lib.ListN.{length, take, drop, replicate, length-append, length-drop, take-append-drop}
 use lib.Seq.{length-take-le}
 use Rattle.words.specs.Bytes.{Bytes}
+use Rattle.words.specs.Refusals.{refusal}
+use Rattle.words.specs.declared.refusal.Refusal.{Refusal}
 use Rattle.tables.specs.Rows.{rows, bytesOf}
 use Rattle.tables.specs.LayoutLaws.{rows-length}
 use Rattle.tables.specs.TableTheorems.{held-bytes}
-use Rattle.keys.specs.Bridge.{Held}
-use Rattle.keys.specs.Bridge as tables
+use Rattle.keys.specs.Sound.{Held}
+use Rattle.keys.specs.Lent as tables
 use Rattle.effects.specs.Log.{logOf}
 use Rattle.effects.specs.ReadBack.{effectsOf}
 use Rattle.machine.specs.Machine.{Env, Machine}
 use Rattle.machine.specs.Turns.{halted, faulted}
-use Rattle.machine.specs.Bridge.{Logged, machineOf}
+use Rattle.machine.specs.Sound.{Logged, machineOf}
 use Rattle.opening.specs.Opening.{Lent}
 use Rattle.interp.specs.Call.{called, refusedAs, haltedAs, wiped, filled, lentAs, wipedAll, keptOf}
 use Rattle.interp.specs.Runs.{HaltsIn}
@@ -46,9 +48,9 @@ workWiped b =
     lentAs (wiped (b .run .memory)) (wiped (b .run .stack)) (tables.bufs (k .changes) (wiped (k .fetched)) (wiped (k .may-read)) (wiped (k .may-write)) (wiped (k .paid))) (b .run .log) (wiped (b .map))
 
 module _ (x : Ended) (b a : Lent) (r : Answer) where
-  pub finish-faults : (x .number ≡ 0 → ⊥) → r ≡ refusedAs (x .number) (x .argument) (x .fetches) → a ≡ wipedAll b → Finishes x b r a
-  finish-faults h q z e s (halted m) t = absurd (h (t .number))
-  finish-faults h q z e s (faulted n k f) t = λ i. called ((q ∙ (λ j. refusedAs (t .0 j) (t .2 j) (t .3 j))) i) (z i)
+  pub finish-faults : (x .end .number ≡ 0 → ⊥) → r ≡ refusedAs (x .end) (x .fetches) → a ≡ wipedAll b → Finishes x b r a
+  finish-faults h q z e s (halted m) t = absurd (h (ap (λ (w : Refusal). w .number) (t .end)))
+  finish-faults h q z e s (faulted w f) t = λ i. called ((q ∙ (λ j. refusedAs (t .0 j) (t .2 j))) i) (z i)
 
   -- the machine of a halt, taken from its state
   module _ (e : Env) (s : List ℕ) (m : Machine) (t : HaltsIn e s x (b .run) m) where
@@ -59,8 +61,7 @@ module _ (x : Ended) (b a : Lent) (r : Answer) where
         let k = b .run .keys in
         rw (← t .is)
         (λ i. record {
-          number = 0;
-          argument = 0;
+          end = refusal 0 0;
           fetches = (t .fetches ∙ ap (λ (y : Machine). y .fetches) (sym (t .is))) i;
           used = x .run .meter .used;
           fetched = sym (rows-length 40 (c .fetched) (k .fetched)) i;
@@ -77,6 +78,6 @@ module _ (x : Ended) (b a : Lent) (r : Answer) where
         (λ i. lentAs (wiped (b .run .memory)) (wiped (b .run .stack)) (tables.bufs (sym (table-filled (x .run .counts .changes) (k .changes) all (t .sound .tables .changes)) i) (wiped (k .fetched)) (wiped (k .may-read)) (wiped (k .may-write)) (wiped (k .paid)))
         (sym (log-filled (x .run .log) (b .run .log) (t .sound .logged)) i) (wiped (b .map)))
 
-  pub finish-halts : x .number ≡ 0 → Bytes (b .run .keys .changes) → r ≡ answerOf x → a ≡ workWiped b → Finishes x b r a
+  pub finish-halts : x .end .number ≡ 0 → Bytes (b .run .keys .changes) → r ≡ answerOf x → a ≡ workWiped b → Finishes x b r a
   finish-halts h all q z e s (halted m) t = λ i. called ((q ∙ answer-is e s m t) i) ((z ∙ kept-is e s m t all) i)
-  finish-halts h all q z e s (faulted n k f) t = absurd (omega (arith, h, t .0, t .1))
+  finish-halts h all q z e s (faulted w f) t = absurd (omega (arith, h, ap (λ (y : Refusal). y .number) (t .0), t .1))

@@ -9,12 +9,12 @@ use Rattle.interp.specs.Runs.{EndsAs}
 use Rattle.interp.specs.declared.answer.Answer.{Answer}
 use Rattle.interp.specs.declared.exec.Ended.{Ended}
 use Prim.Native.Nat.{ℕ}
+use Rattle.words.specs.Refusals.{refusal}
 
 -- the answer of a halt, from the state that it ended in
 abbrev pub answerOf : Ended → Answer
 answerOf x = record {
-  number = 0;
-  argument = 0;
+  end = refusal 0 0;
   fetches = x .fetches;
   used = x .run .meter .used;
   fetched = x .run .counts .fetched;

@@ -12,17 +12,18 @@ use Rattle.tables.specs.Rows.{rows}
 use Rattle.tables.specs.Checked.{risingb, checkedOf}
 use Rattle.tables.specs.CheckTheorems.{whole-table}
 use Rattle.tables.specs.declared.check.Checked.the-variants.{Whole, Bad}
-use Rattle.container.specs.WalkLaws.{holds-starts}
-use Rattle.keys.specs.Bridge.{given, loaderOf, roomsOf}
+use Rattle.starts.specs.WalkLaws.{holds-starts}
+use Rattle.keys.specs.Lent.{loaderOf, roomsOf}
 use Rattle.keys.specs.RoomLaws.{drop-zeroes}
-use Rattle.keys.specs.Opening.{Zero, opening-good, opening-keys}
+use Rattle.keys.specs.Opening.{Zero}
+use Rattle.keys.specs.OpeningLaws.{opening-good, opening-keys}
 use Rattle.effects.specs.Log.{logOf}
 use Rattle.effects.specs.ReadBack.{readBack, effectsOf}
 use Rattle.effects.specs.Counts.{events}
 use Rattle.state.specs.Regs.{cleared}
 use Rattle.machine.specs.Machine.{Env}
 use Rattle.machine.specs.Turns.{End, halted, faulted, runOf}
-use Rattle.machine.specs.Bridge.{stackOf, machineOf, Sound}
+use Rattle.machine.specs.Sound.{stackOf, machineOf, Sound}
 use Rattle.machine.specs.declared.run.Run.{Run}
 use Rattle.opening.specs.Opening.{Lent, memoryOf, envOf, machineFor}
 use Rattle.interp.specs.BufferLaws.{length-wiped}
@@ -63,7 +64,7 @@ pub record SameSizes (b c : Lent) : Type 0 where
 -- an end looks at the buffers' sizes alone
 ending-same : (end : End) (b c : Lent) → SameSizes b c → ending end b ≡ ending end c
 ending-same (halted m) b c z = rw (z .memory, z .stack, z .changes, z .fetched, z .readable, z .writable, z .paid, z .log, z .map)
-ending-same (faulted n a k) b c z = rw (z .memory, z .stack, z .changes, z .fetched, z .readable, z .writable, z .paid, z .log, z .map)
+ending-same (faulted w k) b c z = rw (z .memory, z .stack, z .changes, z .fetched, z .readable, z .writable, z .paid, z .log, z .map)
 
 -- the parts that a run is given, with the map that was made
 abbrev pub partsOf : Given → List ℕ → Parts
@@ -97,8 +98,7 @@ module _ (g : Given) (b a : Lent) (bg : Begins (g .code) (g .preload) b a) (l : 
     };
     store = whole-table 40 (g .store) (omega arith) (g .lent .store) (l .store-whole);
     loader = λ p. whole-table 40 (g .loader) (omega arith) (g .lent .loader) (l .loader-whole p);
-    ml = l .ml;
-    slh = l .slh;
+    host = l .host;
   }
 
   abbrev first : Run

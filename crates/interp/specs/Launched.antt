@@ -2,15 +2,15 @@
 use mathlib.Core.Path.{_≡_}
 use mathlib.Core.Bool.{true}
 use mathlib.Core.List.{List}
-use Prim.Native.Nat.{ℕ, suc, _-_, _/_, _≤_, _<_}
+use Prim.Native.Nat.{ℕ, suc, _-_, _≤_, _<_}
 use lib.ListN.{length}
-use Rattle.words.specs.Bytes.{wordsOf}
+use Rattle.words.specs.Bytes.{wordsIn}
 use Rattle.meter.specs.Prices.{dispatchPrice}
 use Rattle.tables.specs.Checked.{checkedOf}
 use Rattle.tables.specs.declared.check.Checked.the-variants.{Whole}
 use Rattle.container.specs.Container.{Entry, Container}
-use Rattle.keys.specs.declared.look.Lent as look
-use Rattle.crypto.specs.declared.check.Host.{Host}
+use Rattle.keys.specs.declared.look.TableRows.{TableRows}
+use Rattle.machine.specs.declared.host.Host.{Host}
 use Rattle.machine.specs.Turns.{runOf}
 use Rattle.machine.specs.declared.run.Run.{Run}
 use Rattle.opening.specs.Opening.{Input, Lent, envOf, machineFor}
@@ -30,15 +30,12 @@ pub record Given : Type 0 where
   pub loader : List ℕ
   pub replies : List ℕ
   pub preload : List ℕ
-  pub lent : look.Lent
+  pub lent : TableRows
   pub host : Host
   pub start : Run
 
-abbrev pub givenTo : (code consts reads writes kreads kwrites store loader replies pre : List ℕ) → look.Lent → Host → Run → Given
+abbrev pub givenTo : (code consts reads writes keyed-reads keyed-writes store loader replies pre : List ℕ) → TableRows → Host → Run → Given
 givenTo co cs r w kr kw st ld rp pre l h s = record { code = co; consts = cs; reads = r; writes = w; keyed-reads = kr; keyed-writes = kw; store = st; loader = ld; replies = rp; preload = pre; lent = l; host = h; start = s }
-
-abbrev pub wordsIn : List ℕ → List ℕ
-wordsIn s = wordsOf (length s / 8) s
 
 -- an accepted opening: its input, container and entry, and that these bytes are theirs
 pub record Launch (g : Given) (b : Lent) : Type 0 where
@@ -59,8 +56,7 @@ pub record Launch (g : Given) (b : Lent) : Type 0 where
   pub loader-whole : g .lent .present ≡ true → checkedOf 40 (g .loader) ≡ Whole (g .lent .loader)
   pub replies : input .replies ≡ g .replies
   pub preload : input .preload ≡ g .preload
-  pub ml : input .ml-signed ≡ g .host .«ml_signed»
-  pub slh : input .slh-signed ≡ g .host .«slh_signed»
+  pub host : input .host ≡ g .host
   pub start : g .start ≡ firstRun (entry .offset) (dispatchPrice (length (g .code))) (input .limit)
   pub offset-small : entry .offset < 4294967296
   pub afford : dispatchPrice (length (g .code)) ≤ input .limit

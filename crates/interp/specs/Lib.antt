@@ -1,20 +1,24 @@
+-- definitions
 pub mod Call
+-- what the code claims
+pub mod Ties
 pub mod Fetched
 pub mod Operated
+pub mod Runs
 pub mod Wiping
+pub mod Begins
+pub mod Finished
+pub mod Launched
+pub mod Entered
+-- laws
+pub mod BufferLaws
 pub mod FetchLaws
 pub mod OperateLaws
-pub mod BufferLaws
-pub mod Ties
-pub mod Runs
-pub mod RunLaws
 pub mod StepLaws
-pub mod Finished
-pub mod Begins
-pub mod Launched
+pub mod RunLaws
 pub mod FinishLaws
 pub mod LaunchLaws
-pub mod Entered
 pub mod EnterLaws
 pub mod CallLaws
-pub mod Cases
+-- theorems
+pub mod CaseTheorems

@@ -5,6 +5,8 @@ use mathlib.Core.List.{List}
 use Prim.Native.Nat.{ℕ, suc, _+_, _-_, _≤_, _<_}
 use native.Mathlib.Omega.{arith}
 use lib.ListN.{length, set, length-set, length-replicate}
+use Rattle.words.specs.Refusals.{refusal}
+use Rattle.words.specs.declared.refusal.Refusal.{Refusal}
 use Rattle.isa.specs.Table.{priceOf}
 use Rattle.isa.specs.Forms.{formOf}
 use Rattle.isa.specs.Codec.{decodeAt}
@@ -13,20 +15,19 @@ use Rattle.isa.specs.declared.codec.Decoded.{Decoded}
 use Rattle.state.specs.Regs.{cleared}
 use Rattle.state.specs.declared.regs.RegFile.{RegFile}
 use Rattle.keys.specs.Known.{Rooms}
-use Rattle.keys.specs.Bridge.{roomsOf}
+use Rattle.keys.specs.Lent.{roomsOf}
 use Rattle.machine.specs.Machine.{Env, Machine}
 use Rattle.machine.specs.Steps.{Step, next, halt, fault}
-use Rattle.machine.specs.Turns.{stepOf, turnOf, endOf, runOf}
-use Rattle.machine.specs.Actions.{actionOf}
-use Rattle.machine.specs.Outcomes.{extraOf, keysOf}
-use Rattle.machine.specs.Kept.{Keeps, step-keeps}
-use Rattle.machine.specs.Costs.{step-costs}
-use Rattle.machine.specs.Bridge.{Bufs, machineOf, Sound}
-use Rattle.machine.specs.Turned.{puts, Turned}
+use Rattle.machine.specs.Turns.{ruleOf, stepOf, turnOf, endOf, runOf}
+use Rattle.machine.specs.RuleLaws.{Keeps, keeps}
+use Rattle.machine.specs.CostLaws.{step-costs}
+use Rattle.machine.specs.Lent.{Bufs}
+use Rattle.machine.specs.Sound.{machineOf, Sound}
+use Rattle.machine.specs.SoundLaws.{fetches-sound}
+use Rattle.machine.specs.Does.{puts, Turned}
 use Rattle.machine.specs.declared.run.Run.{Run}
 use Rattle.machine.specs.declared.turn.Turn.{Turn}
 use Rattle.interp.specs.Fetched.{instructionIn, StepsFrom, Fetches}
-use Rattle.interp.specs.FetchLaws.{sound-at}
 use Rattle.interp.specs.Ties.{Parts, Ready, Steps}
 use Rattle.interp.specs.Runs.{Begun, Starts, EndsAs, Runs}
 use Rattle.interp.specs.declared.fetch.Fetched.the-variants.{Done, Refused}
@@ -60,7 +61,7 @@ loop-begins p r b f c = rw c (record {
 
 -- a sound state with less used above the fetches
 lower : (e : Env) (s : List ℕ) (d d' : ℕ) (r : Run) (b : Bufs) → Sound e s d r b → d' ≤ d → Sound e s d' r b
-lower e s d d' r b so h = sound-at e s d d' r b (r .pc) (r .fetches) so (so .pc) (omega (arith, so .metered .above))
+lower e s d d' r b so h = fetches-sound so (r .fetches) d' (omega (arith, so .metered .above))
 
 module _ (p : Parts) (r₀ : Run) (b₀ : Bufs) (r : Run) (f : RegFile) (b : Bufs) (x : Looping p r₀ b₀ r f b) where
   -- there is a turn left
@@ -96,12 +97,13 @@ module _ (p : Parts) (r₀ : Run) (b₀ : Bufs) (r : Run) (f : RegFile) (b : Buf
   decoded-in : (o : Decoded) → o ≡ decodeAt (p .code) (r .pc) → (e : Env) → Begun e p r₀ b₀ → o ≡ decodeAt (e .code) (r .pc)
   decoded-in o c e g = c ∙ ap (λ (l : List ℕ). decodeAt l (r .pc)) (sym (g .suits .code))
 
-  pub loop-refused : (o : Decoded) → o ≡ decodeAt (p .code) (r .pc) → (n a k : ℕ) → Fetches o r (Refused n a) → k ≡ r .fetches + 1 → Runs p r₀ b₀ (record { number = n; argument = a; fetches = k; run = r; file = f }) b
+  pub loop-refused : (o : Decoded) → o ≡ decodeAt (p .code) (r .pc) → (w : Refusal) (k : ℕ) → Fetches o r (Refused w) → k ≡ r .fetches + 1
+      → Runs p r₀ b₀ (record { end = w; fetches = k; run = r; file = f }) b
   unfolding endOf
-  loop-refused o read n a k told c e g =
+  loop-refused o read w k told c e g =
       let (q, l) = told e (p .replies) d f b (decoded-in o read e g) (before e g) in
       let z : k ≡ suc (r .fetches) = omega (arith, c) in
-      rw (one-turn e g (fault n a) q) (refl, l, refl, z)
+      rw (one-turn e g (fault w) q) (refl, l, z)
 
   -- an instruction was fetched
   module _ (i : Instr) (q : Run) (taken : Taken (p .code) r i q) where
@@ -117,36 +119,36 @@ module _ (p : Parts) (r₀ : Run) (b₀ : Bufs) (r : Run) (f : RegFile) (b : Buf
       Came e y = Turned e (p .replies) (d + priceOf (formOf i .op)) f y t a
 
       came : (e : Env) → Begun e p r₀ b₀ → Came e (stepOf e i (machineOf (p .replies) q f b))
-      came e g = st e (d + priceOf (formOf i .op)) (g .suits) (x .going e g .regs) (at e g .1)
+      unfolding stepOf ruleOf machineOf
+      came e g = st e (d + priceOf (formOf i .op)) (g .suits) (x .going e g .regs) (at e g .1) .turned
 
-      pub loop-faults : (t .fault ≡ 0 → ⊥) → (y : Run) → Runs p r₀ b₀ (record { number = t .fault; argument = 0; fetches = q .fetches; run = y; file = f }) a
+      pub loop-faults : (t .fault ≡ 0 → ⊥) → (y : Run) → Runs p r₀ b₀ (record { end = refusal (t .fault) 0; fetches = q .fetches; run = y; file = f }) a
       unfolding endOf
       loop-faults h y e g = go (stepOf e i (machineOf (p .replies) q f b)) (at e g .0) (came e g)
         where
           go : (z : Step) → turnOf e (machineOf (p .replies) r f b) ≡ z → Came e z
-              → EndsAs e (p .replies) (runOf (turnsOf e r₀) e (machineOf (p .replies) r₀ cleared b₀)) (record { number = t .fault; argument = 0; fetches = q .fetches; run = y; file = f }) a
+              → EndsAs e (p .replies) (runOf (turnsOf e r₀) e (machineOf (p .replies) r₀ cleared b₀)) (record { end = refusal (t .fault) 0; fetches = q .fetches; run = y; file = f }) a
           go (next m) z c = absurd (h (c .0))
           go (halt m) z c = absurd (h (c .0))
-          go (fault n k) z c = rw (one-turn e g (fault n k) z) (c .0, c .1, sym (c .2), at e g .2)
+          go (fault w) z c = rw (one-turn e g (fault w) z) (sym (c .0), rw (c .0) (c .1), at e g .2)
 
-      pub loop-halts : t .fault ≡ 0 → t .halted ≡ true → (w : RegFile) → w ≡ puts (t .put) f → Runs p r₀ b₀ (record { number = 0; argument = 0; fetches = t .run .fetches; run = t .run; file = w }) a
+      pub loop-halts : t .fault ≡ 0 → t .halted ≡ true → (w : RegFile) → w ≡ puts (t .put) f → Runs p r₀ b₀ (record { end = refusal 0 0; fetches = t .run .fetches; run = t .run; file = w }) a
       unfolding machineOf endOf
       loop-halts h k w u e g = go (stepOf e i (machineOf (p .replies) q f b)) (at e g .0) (came e g)
         where
           go : (z : Step) → turnOf e (machineOf (p .replies) r f b) ≡ z → Came e z
-              → EndsAs e (p .replies) (runOf (turnsOf e r₀) e (machineOf (p .replies) r₀ cleared b₀)) (record { number = 0; argument = 0; fetches = t .run .fetches; run = t .run; file = w }) a
+              → EndsAs e (p .replies) (runOf (turnsOf e r₀) e (machineOf (p .replies) r₀ cleared b₀)) (record { end = refusal 0 0; fetches = t .run .fetches; run = t .run; file = w }) a
           go (next m) z c = let y = c .1 in absurd (let o : _≡_ {A = ℕ} 0 1 = cc in omega arith)
           go (halt m) z c =
               let l = c .2 in
               rw (one-turn e g (halt m) z)
               (record {
-                number = refl;
-                argument = refl;
+                end = refl;
                 fetches = ap (λ (y : Machine). y .fetches) (l .is);
                 is = rw u (l .is);
                 sound = lower e (p .replies) (d + priceOf (formOf i .op)) 0 (t .run) a (l .sound) (omega arith);
               })
-          go (fault n y) z c = absurd (omega (arith, c .0, c .1))
+          go (fault y) z c = absurd (omega (arith, c .1, h))
 
       -- on to the next turn
       record Went (e : Env) : Type 0 where
@@ -158,10 +160,10 @@ module _ (p : Parts) (r₀ : Run) (b₀ : Bufs) (r : Run) (f : RegFile) (b : Buf
         counts : t .run .fetches ≡ suc (r .fetches)
 
       went : t .fault ≡ 0 → t .halted ≡ false → (e : Env) → Begun e p r₀ b₀ → Went e
-      unfolding machineOf
-      went h k e g = go (stepOf e i (machineOf (p .replies) q f b)) refl (at e g .0) (came e g) (step-keeps e (machineOf (p .replies) q f b) i)
+      unfolding machineOf stepOf
+      went h k e g = go (stepOf e i (machineOf (p .replies) q f b)) refl (at e g .0) (came e g) (keeps (e .limit) (q .meter .used) (q .fetches) (ruleOf e i (machineOf (p .replies) q f b)))
         where
-          go : (z : Step) → stepOf e i (machineOf (p .replies) q f b) ≡ z → turnOf e (machineOf (p .replies) r f b) ≡ z → Came e z → Keeps e (machineOf (p .replies) q f b) (extraOf e (actionOf i) (machineOf (p .replies) q f b)) (keysOf e (actionOf i) (machineOf (p .replies) q f b)) z → Went e
+          go : (z : Step) → stepOf e i (machineOf (p .replies) q f b) ≡ z → turnOf e (machineOf (p .replies) r f b) ≡ z → Came e z → Keeps (e .limit) (q .meter .used) (q .fetches) (ruleOf e i (machineOf (p .replies) q f b)) z → Went e
           go (next m) y z c n =
               let l = c .2 in
               record {
@@ -170,10 +172,10 @@ module _ (p : Parts) (r₀ : Run) (b₀ : Bufs) (r : Run) (f : RegFile) (b : Buf
                 sound = l .sound;
                 turn = z;
                 costs = step-costs e i (machineOf (p .replies) q f b) m y;
-                counts = ap (λ (o : Machine). o .fetches) (l .is) ∙ n .fetches ∙ at e g .2;
+                counts = ap (λ (o : Machine). o .fetches) (l .is) ∙ ap (λ (o : Machine). o .fetches) (n .is) ∙ at e g .2;
               }
           go (halt m) y z c n = let o = c .1 in absurd (let w : _≡_ {A = ℕ} 0 1 = cc in omega arith)
-          go (fault j o) y z c n = absurd (omega (arith, c .0, c .1))
+          go (fault o) y z c n = absurd (omega (arith, c .1, h))
 
       pub loop-goes : t .fault ≡ 0 → t .halted ≡ false → (w : RegFile) → w ≡ puts (t .put) f → Looping p r₀ b₀ (t .run) w a
       unfolding d endOf

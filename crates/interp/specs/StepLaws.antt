@@ -6,16 +6,18 @@ use native.Mathlib.Omega.{arith}
 use lib.ListN.{length}
 use Rattle.isa.specs.declared.instr.Instr.{Instr}
 use Rattle.state.specs.Regs.{file}
-use Rattle.keys.specs.Bridge.{given}
-use Rattle.keys.specs.Bridge as tables
-use Rattle.keys.specs.declared.look.Lent.{Lent}
+use Rattle.keys.specs.Lent.{given}
+use Rattle.keys.specs.Lent as tables
+use Rattle.keys.specs.declared.look.TableRows.{TableRows}
 use Rattle.machine.specs.Machine.{Env}
 use Rattle.machine.specs.Actions.{actionOf}
 use Rattle.machine.specs.StorageRules.{accessOf}
 use Rattle.machine.specs.CryptoRules.{hashOf, checkOf}
-use Rattle.machine.specs.Turns.{actOf, stepOf}
-use Rattle.machine.specs.Bridge.{Bufs, bufs, machineOf, Sound, lentTo}
-use Rattle.machine.specs.Turned.{goes, halts, Turned}
+use Rattle.machine.specs.Rules.{play}
+use Rattle.machine.specs.Turns.{actOf, ruleOf}
+use Rattle.machine.specs.Lent.{Bufs, bufs, lentTo}
+use Rattle.machine.specs.Sound.{machineOf}
+use Rattle.machine.specs.Does.{goes, halts, Does}
 use Rattle.machine.specs.TurnLaws.{none-put, goes-next}
 use Rattle.machine.specs.declared.action.Action.{Action}
 use Rattle.machine.specs.declared.action.Action.the-variants as action
@@ -26,10 +28,8 @@ use Rattle.machine.specs.declared.action.Post.{Post}
 use Rattle.machine.specs.declared.action.Check.{Check}
 use Rattle.machine.specs.declared.run.Run.{Run}
 use Rattle.machine.specs.declared.turn.Turn.{Turn}
-use Rattle.moves.specs.Contracts.{Moves, Jumps}
-use Rattle.storage.specs.Answered as storage
-use Rattle.posts.specs.Putting.{Posts}
-use Rattle.crypto.specs.Answers as crypto
+use Rattle.ops_moves.specs.Contracts.{Moves, Jumps}
+use Rattle.ops_posts.specs.EffectRules.{Posts}
 use Rattle.interp.specs.Operated.{Operates}
 use Rattle.interp.specs.Ties.{Parts, Suits, Ready, Steps}
 
@@ -39,18 +39,17 @@ stack-holds p r b x = omega (arith, x .sound .depth, x .sound .sized .stack)
 
 module _ (p : Parts) (i : Instr) (r : Run) (regs : List ℕ) (a : Action) (k : a ≡ actionOf i) where
   steps-by : (o : Action) → a ≡ o → (b c : Bufs) (t : Turn)
-      → ((e : Env) (d : ℕ) → Suits e p → length regs ≡ 16 → Sound e (p .replies) d r b → Turned e (p .replies) d (file regs) (actOf e i o (machineOf (p .replies) r (file regs) b)) t c)
-      → Steps p i r regs b c t
-  unfolding stepOf
+      → ((e : Env) (d : ℕ) → Suits e p → Does e (p .replies) d (actOf e i o) r (file regs) b c t) → Steps p i r regs b c t
+  unfolding ruleOf
   steps-by o h b c t x e d su l so = let q : actionOf i ≡ o = sym k ∙ h in rw q (x e d su l so)
 
   pub halt-steps : a ≡ action.Halt → (b : Bufs) → Steps p i r regs b b (halts r)
-  unfolding actOf
-  halt-steps h b = steps-by action.Halt h b b (halts r) (λ e d su l so. (refl, refl, record { is = rw (none-put r (file regs) l); sound = so }))
+  unfolding actOf machineOf play
+  halt-steps h b = steps-by action.Halt h b b (halts r) (λ e d su l so. record { turned = (refl, refl, record { is = rw (none-put r (file regs) l); sound = so }) })
 
   pub nop-steps : a ≡ action.Nop → (b : Bufs) → Steps p i r regs b b (goes r)
-  unfolding actOf
-  nop-steps h b = steps-by action.Nop h b b (goes r) (λ e d su l so. goes-next e (p .replies) d (file regs) r b _ l refl so)
+  unfolding actOf machineOf
+  nop-steps h b = steps-by action.Nop h b b (goes r) (λ e d su l so. goes-next l refl so)
 
   pub register-steps : a ≡ action.Registers → (b : Bufs) (t : Turn) → Operates i r regs t → Steps p i r regs b b t
   unfolding actOf machineOf
@@ -74,23 +73,23 @@ module _ (p : Parts) (i : Instr) (r : Run) (regs : List ℕ) (a : Action) (k : a
     post-steps log' o h x = steps-by (action.Posts o) h (bufs mem st ks log) (bufs mem st ks log') t (λ e d su l so. x e (p .replies) st d ks l so)
 
     pub check-steps : (mem' : List ℕ) (o : Check) → a ≡ action.Checks o
-        → ((e : Env) (stack l : List ℕ) (d : ℕ) (k : tables.Bufs) → e .ml-signed ≡ p .host .«ml_signed» → e .slh-signed ≡ p .host .«slh_signed» → crypto.Answers e (p .replies) d (checkOf e o) r (file regs) (bufs mem stack k l) (bufs mem' stack k l) t)
+        → ((e : Env) (stack l : List ℕ) (d : ℕ) (k : tables.Bufs) → e .host ≡ p .host → Does e (p .replies) d (checkOf e o) r (file regs) (bufs mem stack k l) (bufs mem' stack k l) t)
         → Steps p i r regs (bufs mem st ks log) (bufs mem' st ks log) t
     unfolding actOf
-    check-steps mem' o h x = steps-by (action.Checks o) h (bufs mem st ks log) (bufs mem' st ks log) t (λ e d su l so. x e st log d ks (su .ml) (su .slh) l so)
+    check-steps mem' o h x = steps-by (action.Checks o) h (bufs mem st ks log) (bufs mem' st ks log) t (λ e d su l so. x e st log d ks (su .host) l so)
 
   module _ (mem st ch fe rd wr pd log : List ℕ) (t : Turn) where
     pub access-steps : (ch' fe' pd' : List ℕ) (o : Access) → a ≡ action.Storage o
-        → ((e : Env) (s kr kw stack l : List ℕ) (d : ℕ) → storage.Answers e s d (accessOf e o) (p .lent) (given (p .reads) (p .writes) kr kw (p .store) (p .loader)) r (file regs) (lentTo mem stack ch fe rd wr pd l) (lentTo mem stack ch' fe' rd wr pd' l) t)
+        → ((e : Env) (s kr kw stack l : List ℕ) (d : ℕ) → e .keys ≡ tables.envOf (p .lent) (given (p .reads) (p .writes) kr kw (p .store) (p .loader)) → Does e s d (accessOf e o) r (file regs) (lentTo mem stack ch fe rd wr pd l) (lentTo mem stack ch' fe' rd wr pd' l) t)
         → Steps p i r regs (lentTo mem st ch fe rd wr pd log) (lentTo mem st ch' fe' rd wr pd' log) t
     unfolding actOf
     access-steps ch' fe' pd' o h x =
         steps-by (action.Storage o) h (lentTo mem st ch fe rd wr pd log) (lentTo mem st ch' fe' rd wr pd' log) t
-        (λ e d su l so. x e (p .replies) (p .keyed-reads) (p .keyed-writes) st log d l (su .keys) so)
+        (λ e d su l so. x e (p .replies) (p .keyed-reads) (p .keyed-writes) st log d (su .keys) l so)
 
     pub hash-steps : (mem' rd' wr' : List ℕ) (x y z : ℕ) → a ≡ action.Hash x y z
-        → ((e : Env) (l : Lent) (reads writes store loader c f pp stack g : List ℕ) (d : ℕ) → e .keys ≡ tables.envOf l (given reads writes (p .keyed-reads) (p .keyed-writes) store loader)
-        → crypto.Answers e (p .replies) d (hashOf e x y z) r (file regs) (lentTo mem stack c f rd wr pp g) (lentTo mem' stack c f rd' wr' pp g) t)
+        → ((e : Env) (l : TableRows) (reads writes store loader c f pp stack g : List ℕ) (d : ℕ) → e .keys ≡ tables.envOf l (given reads writes (p .keyed-reads) (p .keyed-writes) store loader)
+        → Does e (p .replies) d (hashOf e x y z) r (file regs) (lentTo mem stack c f rd wr pp g) (lentTo mem' stack c f rd' wr' pp g) t)
         → Steps p i r regs (lentTo mem st ch fe rd wr pd log) (lentTo mem' st ch fe rd' wr' pd log) t
     unfolding actOf
     hash-steps mem' rd' wr' x y z h w =

@@ -5,21 +5,23 @@ use Prim.Native.Nat.{ℕ, _/_}
 use lib.ListN.{length}
 use Rattle.words.specs.Bytes.{wordsOf}
 use Rattle.tables.specs.Table.{Table}
-use Rattle.container.specs.Targets.{Holds}
-use Rattle.keys.specs.Bridge.{given, Loader}
-use Rattle.keys.specs.Bridge as tables
-use Rattle.keys.specs.declared.look.Lent.{Lent}
-use Rattle.crypto.specs.declared.check.Host.{Host}
+use Rattle.starts.specs.Marks.{Holds}
+use Rattle.keys.specs.Lent.{given}
+use Rattle.keys.specs.Sound.{Loader}
+use Rattle.keys.specs.Lent as tables
+use Rattle.keys.specs.declared.look.TableRows.{TableRows}
+use Rattle.machine.specs.declared.host.Host.{Host}
 use Rattle.state.specs.Regs.{file}
 use Rattle.isa.specs.declared.instr.Instr.{Instr}
 use Rattle.machine.specs.Machine.{Env}
-use Rattle.machine.specs.Turns.{stepOf}
-use Rattle.machine.specs.Bridge.{Bufs, bufs, machineOf, Sound}
-use Rattle.machine.specs.Turned.{Turned}
+use Rattle.machine.specs.Turns.{ruleOf}
+use Rattle.machine.specs.Lent.{Bufs}
+use Rattle.machine.specs.Sound.{Sound}
+use Rattle.machine.specs.Does.{Does}
 use Rattle.machine.specs.declared.run.Run.{Run}
 use Rattle.machine.specs.declared.turn.Turn.{Turn}
 
--- code, constants, slots, store, loader, replies and the map of starts; the rows of the tables; the two totals
+-- code, constants, slots, store, loader, replies and the map of starts; the rows of the tables; the host's numbers
 pub record Parts : Type 0 where
   pub code : List ℕ
   pub consts : List ℕ
@@ -31,10 +33,10 @@ pub record Parts : Type 0 where
   pub loader : List ℕ
   pub replies : List ℕ
   pub map : List ℕ
-  pub lent : Lent
+  pub lent : TableRows
   pub host : Host
 
-abbrev pub parts : (code consts reads writes kreads kwrites store loader replies map : List ℕ) → Lent → Host → Parts
+abbrev pub parts : (code consts reads writes keyed-reads keyed-writes store loader replies map : List ℕ) → TableRows → Host → Parts
 parts co cs r w kr kw st ld rp map l h = record { code = co; consts = cs; reads = r; writes = w; keyed-reads = kr; keyed-writes = kw; store = st; loader = ld; replies = rp; map = map; lent = l; host = h }
 
 -- these parts are this environment's
@@ -46,8 +48,7 @@ pub record Suits (e : Env) (p : Parts) : Type 0 where
   pub keys : e .keys ≡ tables.envOf (p .lent) (given (p .reads) (p .writes) (p .keyed-reads) (p .keyed-writes) (p .store) (p .loader))
   pub store : Table 40 (p .lent .store) (p .store)
   pub loader : Loader (p .lent .present) (p .lent .loader) (p .loader)
-  pub ml : e .ml-signed ≡ p .host .«ml_signed»
-  pub slh : e .slh-signed ≡ p .host .«slh_signed»
+  pub host : e .host ≡ p .host
 
 -- a state that is sound in some environment of these parts
 pub record Ready (p : Parts) (r : Run) (b : Bufs) : Type 0 where
@@ -58,5 +59,4 @@ pub record Ready (p : Parts) (r : Run) (b : Bufs) : Type 0 where
 
 -- a step from registers and bytes b to bytes a: in every environment of the parts it is the rule's
 abbrev pub Steps : Parts → Instr → Run → List ℕ → (b a : Bufs) → Turn → Type 0
-Steps p i r regs b a t =
-    (e : Env) (d : ℕ) → Suits e p → length regs ≡ 16 → Sound e (p .replies) d r b → Turned e (p .replies) d (file regs) (stepOf e i (machineOf (p .replies) r (file regs) b)) t a
+Steps p i r regs b a t = (e : Env) (d : ℕ) → Suits e p → Does e (p .replies) d (ruleOf e i) r (file regs) b a t

@@ -2,11 +2,11 @@
 ghost use mathlib.Core.Path.{_≡_};
 ghost use Rattle.interp.specs.Call.{refusedAs};
 use state::regs::RegFile;
+use words::refusal::Refusal;
 
-// Document 01's number and argument; what a run fetched and used; the rows fetched and changed, the bytes of the log, the registers.
+// Document 01's number and argument, 0 for a halt; what a run fetched and used; the rows fetched and changed, the bytes of the log, the registers.
 pub struct Answer {
-    pub number: u64,
-    pub argument: u64,
+    pub end: Refusal,
     pub fetches: u64,
     pub used: u64,
     pub fetched: u64,
@@ -15,13 +15,12 @@ pub struct Answer {
     pub regs: RegFile,
 }
 
-// Zero past number, argument and fetches.
-pub fn refused(number: u64, argument: u64, fetches: u64) -> Answer
-    ensures { λ r. ⌜ r ≡ refusedAs number argument fetches ⌝ }
+// Zero past how it ended and its fetches.
+pub fn refused(end: Refusal, fetches: u64) -> Answer
+    ensures { λ r. ⌜ r ≡ refusedAs end fetches ⌝ }
 {
     Answer {
-        number,
-        argument,
+        end,
         fetches,
         used: 0,
         fetched: 0,

@@ -1,6 +1,6 @@
 // What a run starts from.
 ghost use mathlib.Core.Path.{_≡_};
-ghost use Rattle.keys.specs.Bridge as tables;
+ghost use Rattle.keys.specs.Lent as tables;
 ghost use Rattle.interp.specs.Call.{lentAs};
 ghost use Rattle.interp.specs.Begins.{firstRun, Begins};
 use keys::counts::Counts;
@@ -34,10 +34,10 @@ pub fn first_run(offset: u64, used: u64, limit: u64) -> Run
 // Zeroes all working buffers, marks the code's instruction starts and loads the preload.
 pub fn begin(
     code: &[u8],
-    pre: &[u8],
+    preload: &[u8],
     memory: &mut [u8],
     stack: &mut [u64],
-    map: &mut [u8],
+    starts: &mut [u8],
     changes: &mut [u8],
     fetched: &mut [u8],
     readable: &mut [u8],
@@ -45,11 +45,15 @@ pub fn begin(
     paid: &mut [u8],
     log: &mut [u8],
 )
-    ensures { λ _. ⌜ Begins (now (code .entry)) (now (pre .entry)) (lentAs (now (memory .entry)) (now (stack .entry)) (tables.bufs (now (changes .entry)) (now (fetched .entry)) (now (readable .entry)) (now (writable .entry)) (now (paid .entry))) (now (log .entry)) (now (map .entry))) (lentAs (now (memory .exit)) (now (stack .exit)) (tables.bufs (now (changes .exit)) (now (fetched .exit)) (now (readable .exit)) (now (writable .exit)) (now (paid .exit))) (now (log .exit)) (now (map .exit))) ⌝ }
+    ensures { λ _. ⌜ Begins (now (code .entry)) (now (preload .entry))
+        (lentAs (now (memory .entry)) (now (stack .entry)) (tables.bufs (now (changes .entry)) (now (fetched .entry)) (now (readable .entry))
+        (now (writable .entry)) (now (paid .entry))) (now (log .entry)) (now (starts .entry)))
+        (lentAs (now (memory .exit)) (now (stack .exit)) (tables.bufs (now (changes .exit)) (now (fetched .exit)) (now (readable .exit))
+        (now (writable .exit)) (now (paid .exit))) (now (log .exit)) (now (starts .exit))) ⌝ }
 {
-    crate::buffers::wipe_work(memory, stack, map, fetched, readable, writable, paid);
+    crate::buffers::wipe_work(memory, stack, starts, fetched, readable, writable, paid);
     crate::buffers::wipe(changes);
     crate::buffers::wipe(log);
-    container::scan::scan(code, 65536, map);
-    crate::buffers::preload(memory, pre);
+    starts::scan::scan(code, 65536, starts);
+    crate::buffers::preload(memory, preload);
 }

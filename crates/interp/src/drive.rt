@@ -1,30 +1,29 @@
 // A call that is opened: begun, run and finished.
-ghost use mathlib.Core.Path.{_≡_};
-ghost use Rattle.keys.specs.Bridge as tables;
+ghost use Rattle.keys.specs.Lent as tables;
 ghost use Rattle.interp.specs.Call.{lentAs};
 ghost use Rattle.interp.specs.Launched.{givenTo, Launch, Drives};
 use crate::answer::Answer;
-use crypto::check::Host;
-use keys::look::Lent;
+use keys::look::TableRows;
+use machine::host::Host;
 use machine::run::Run;
 
 pub fn drive(
     start: Run,
-    lent: Lent,
+    lent: TableRows,
     host: Host,
     code: &[u8],
     consts: &[u8],
     reads: &[u8],
     writes: &[u8],
-    kreads: &[u8],
-    kwrites: &[u8],
+    keyed_reads: &[u8],
+    keyed_writes: &[u8],
     store: &[u8],
     loader: &[u8],
     replies: &[u8],
-    pre: &[u8],
+    preload: &[u8],
     memory: &mut [u8],
     stack: &mut [u64],
-    map: &mut [u8],
+    starts: &mut [u8],
     changes: &mut [u8],
     fetched: &mut [u8],
     readable: &mut [u8],
@@ -32,15 +31,22 @@ pub fn drive(
     paid: &mut [u8],
     log: &mut [u8],
 ) -> Answer
-    requires { ⌜ Launch (givenTo (now code) (now consts) (now reads) (now writes) (now kreads) (now kwrites) (now store) (now loader) (now replies) (now pre) lent host start) (lentAs (now memory) (now stack) (tables.bufs (now changes) (now fetched) (now readable) (now writable) (now paid)) (now log) (now map)) ⌝ }
-    ensures { λ r. ⌜ Drives (givenTo (now (code .entry)) (now (consts .entry)) (now (reads .entry)) (now (writes .entry)) (now (kreads .entry)) (now (kwrites .entry)) (now (store .entry)) (now (loader .entry)) (now (replies .entry)) (now (pre .entry)) lent host start) (lentAs (now (memory .entry)) (now (stack .entry)) (tables.bufs (now (changes .entry)) (now (fetched .entry)) (now (readable .entry)) (now (writable .entry)) (now (paid .entry))) (now (log .entry)) (now (map .entry))) r (lentAs (now (memory .exit)) (now (stack .exit)) (tables.bufs (now (changes .exit)) (now (fetched .exit)) (now (readable .exit)) (now (writable .exit)) (now (paid .exit))) (now (log .exit)) (now (map .exit))) ⌝ }
+    requires { ⌜ Launch (givenTo (now code) (now consts) (now reads) (now writes) (now «keyed_reads») (now «keyed_writes») (now store) (now loader)
+        (now replies) (now preload) lent host start) (lentAs (now memory) (now stack)
+        (tables.bufs (now changes) (now fetched) (now readable) (now writable) (now paid)) (now log) (now starts)) ⌝ }
+    ensures { λ r. ⌜ Drives (givenTo (now (code .entry)) (now (consts .entry)) (now (reads .entry)) (now (writes .entry)) (now («keyed_reads» .entry))
+        (now («keyed_writes» .entry)) (now (store .entry)) (now (loader .entry)) (now (replies .entry)) (now (preload .entry)) lent host start)
+        (lentAs (now (memory .entry)) (now (stack .entry)) (tables.bufs (now (changes .entry)) (now (fetched .entry)) (now (readable .entry))
+        (now (writable .entry)) (now (paid .entry))) (now (log .entry)) (now (starts .entry))) r
+        (lentAs (now (memory .exit)) (now (stack .exit)) (tables.bufs (now (changes .exit)) (now (fetched .exit)) (now (readable .exit))
+        (now (writable .exit)) (now (paid .exit))) (now (log .exit)) (now (starts .exit))) ⌝ }
 {
     crate::begin::begin(
         code,
-        pre,
+        preload,
         memory,
         stack,
-        map,
+        starts,
         changes,
         fetched,
         readable,
@@ -56,12 +62,12 @@ pub fn drive(
         consts,
         reads,
         writes,
-        kreads,
-        kwrites,
+        keyed_reads,
+        keyed_writes,
         store,
         loader,
         replies,
-        map,
+        starts,
         memory,
         stack,
         changes,
@@ -75,7 +81,7 @@ pub fn drive(
         x,
         memory,
         stack,
-        map,
+        starts,
         changes,
         fetched,
         readable,

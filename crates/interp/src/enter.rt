@@ -1,10 +1,9 @@
 // An accepted opening, run over the container's parts where they stand.
-ghost use mathlib.Core.Path.{_≡_};
-ghost use Rattle.keys.specs.Bridge as tables;
+ghost use Rattle.keys.specs.Lent as tables;
 ghost use Rattle.interp.specs.Call.{lentAs};
 ghost use Rattle.interp.specs.Entered.{Entered, Enters};
 use crate::answer::Answer;
-use crypto::check::Host;
+use machine::host::Host;
 use opening::open::Opened;
 
 pub fn enter(
@@ -15,10 +14,10 @@ pub fn enter(
     store: &[u8],
     loader: &[u8],
     replies: &[u8],
-    pre: &[u8],
+    preload: &[u8],
     memory: &mut [u8],
     stack: &mut [u64],
-    map: &mut [u8],
+    starts: &mut [u8],
     changes: &mut [u8],
     fetched: &mut [u8],
     readable: &mut [u8],
@@ -26,8 +25,13 @@ pub fn enter(
     paid: &mut [u8],
     log: &mut [u8],
 ) -> Answer
-    requires { ⌜ Entered o limit host (now container) (now store) (now loader) (now replies) (now pre) (lentAs (now memory) (now stack) (tables.bufs (now changes) (now fetched) (now readable) (now writable) (now paid)) (now log) (now map)) ⌝ }
-    ensures { λ r. ⌜ Enters o limit host (now (container .entry)) (now (store .entry)) (now (loader .entry)) (now (replies .entry)) (now (pre .entry)) (lentAs (now (memory .entry)) (now (stack .entry)) (tables.bufs (now (changes .entry)) (now (fetched .entry)) (now (readable .entry)) (now (writable .entry)) (now (paid .entry))) (now (log .entry)) (now (map .entry))) r (lentAs (now (memory .exit)) (now (stack .exit)) (tables.bufs (now (changes .exit)) (now (fetched .exit)) (now (readable .exit)) (now (writable .exit)) (now (paid .exit))) (now (log .exit)) (now (map .exit))) ⌝ }
+    requires { ⌜ Entered o limit host (now container) (now store) (now loader) (now replies) (now preload)
+        (lentAs (now memory) (now stack) (tables.bufs (now changes) (now fetched) (now readable) (now writable) (now paid)) (now log) (now starts)) ⌝ }
+    ensures { λ r. ⌜ Enters o limit host (now (container .entry)) (now (store .entry)) (now (loader .entry)) (now (replies .entry)) (now (preload .entry))
+        (lentAs (now (memory .entry)) (now (stack .entry)) (tables.bufs (now (changes .entry)) (now (fetched .entry)) (now (readable .entry))
+        (now (writable .entry)) (now (paid .entry))) (now (log .entry)) (now (starts .entry))) r
+        (lentAs (now (memory .exit)) (now (stack .exit)) (tables.bufs (now (changes .exit)) (now (fetched .exit)) (now (readable .exit))
+        (now (writable .exit)) (now (paid .exit))) (now (log .exit)) (now (starts .exit))) ⌝ }
 {
     let l = o.layout;
     let e = o.entry;
@@ -42,11 +46,11 @@ pub fn enter(
     let writes = w.at;
     let writes_end = writes + w.count * 8;
     let kr = e.keyed_reads;
-    let kreads = kr.at;
-    let kreads_end = kreads + kr.count * 8;
+    let keyed_reads = kr.at;
+    let keyed_reads_end = keyed_reads + kr.count * 8;
     let kw = e.keyed_writes;
-    let kwrites = kw.at;
-    let kwrites_end = kwrites + kw.count * 8;
+    let keyed_writes = kw.at;
+    let keyed_writes_end = keyed_writes + kw.count * 8;
     let start = crate::begin::first_run(e.offset, o.used, limit);
     let lent = o.lent;
     crate::drive::drive(
@@ -57,15 +61,15 @@ pub fn enter(
         &container[consts..consts_end],
         &container[reads..reads_end],
         &container[writes..writes_end],
-        &container[kreads..kreads_end],
-        &container[kwrites..kwrites_end],
+        &container[keyed_reads..keyed_reads_end],
+        &container[keyed_writes..keyed_writes_end],
         store,
         loader,
         replies,
-        pre,
+        preload,
         memory,
         stack,
-        map,
+        starts,
         changes,
         fetched,
         readable,

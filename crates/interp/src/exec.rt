@@ -1,20 +1,20 @@
 // The run: turn after turn, the registers a local of the loop.
 ghost use mathlib.Core.Path.{_≡_};
-ghost use Rattle.machine.specs.Turned.{puts};
-ghost use Rattle.machine.specs.Bridge.{lentTo};
+ghost use Rattle.machine.specs.Does.{puts};
+ghost use Rattle.machine.specs.Lent.{lentTo};
 ghost use Rattle.interp.specs.Ties.{parts};
 ghost use Rattle.interp.specs.Runs.{Starts, Runs};
 use crate::fetch::Fetched;
-use crypto::check::Host;
-use keys::look::Lent;
+use keys::look::TableRows;
+use machine::host::Host;
 use machine::run::Run;
 use machine::turn::Put;
 use state::regs::RegFile;
+use words::refusal::Refusal;
 
-// How a run ended: 0 for a halt, or a number and its argument; what was fetched, and the state it ended in.
+// How a run ended, 0 for a halt; what was fetched, and the state it ended in.
 pub struct Ended {
-    pub number: u64,
-    pub argument: u64,
+    pub end: Refusal,
     pub fetches: u64,
     pub run: Run,
     pub file: RegFile,
@@ -30,18 +30,18 @@ fn put(file: RegFile, p: Put) -> RegFile
 
 pub fn exec(
     start: Run,
-    lent: Lent,
+    lent: TableRows,
     host: Host,
     code: &[u8],
     consts: &[u8],
     reads: &[u8],
     writes: &[u8],
-    kreads: &[u8],
-    kwrites: &[u8],
+    keyed_reads: &[u8],
+    keyed_writes: &[u8],
     store: &[u8],
     loader: &[u8],
     replies: &[u8],
-    map: &[u8],
+    starts: &[u8],
     memory: &mut [u8],
     stack: &mut [u64],
     changes: &mut [u8],
@@ -51,8 +51,14 @@ pub fn exec(
     paid: &mut [u8],
     log: &mut [u8],
 ) -> Ended
-    requires { ⌜ Starts (parts (now code) (now consts) (now reads) (now writes) (now kreads) (now kwrites) (now store) (now loader) (now replies) (now map) lent host) start (lentTo (now memory) (now stack) (now changes) (now fetched) (now readable) (now writable) (now paid) (now log)) ⌝ }
-    ensures { λ r. ⌜ Runs (parts (now (code .entry)) (now (consts .entry)) (now (reads .entry)) (now (writes .entry)) (now (kreads .entry)) (now (kwrites .entry)) (now (store .entry)) (now (loader .entry)) (now (replies .entry)) (now (map .entry)) lent host) start (lentTo (now (memory .entry)) (now (stack .entry)) (now (changes .entry)) (now (fetched .entry)) (now (readable .entry)) (now (writable .entry)) (now (paid .entry)) (now (log .entry))) r (lentTo (now (memory .exit)) (now (stack .exit)) (now (changes .exit)) (now (fetched .exit)) (now (readable .exit)) (now (writable .exit)) (now (paid .exit)) (now (log .exit))) ⌝ }
+    requires { ⌜ Starts (parts (now code) (now consts) (now reads) (now writes) (now «keyed_reads») (now «keyed_writes») (now store) (now loader)
+        (now replies) (now starts) lent host) start (lentTo (now memory) (now stack) (now changes) (now fetched) (now readable) (now writable) (now paid)
+        (now log)) ⌝ }
+    ensures { λ r. ⌜ Runs (parts (now (code .entry)) (now (consts .entry)) (now (reads .entry)) (now (writes .entry)) (now («keyed_reads» .entry))
+        (now («keyed_writes» .entry)) (now (store .entry)) (now (loader .entry)) (now (replies .entry)) (now (starts .entry)) lent host) start
+        (lentTo (now (memory .entry)) (now (stack .entry)) (now (changes .entry)) (now (fetched .entry)) (now (readable .entry)) (now (writable .entry))
+        (now (paid .entry)) (now (log .entry))) r (lentTo (now (memory .exit)) (now (stack .exit)) (now (changes .exit)) (now (fetched .exit))
+        (now (readable .exit)) (now (writable .exit)) (now (paid .exit)) (now (log .exit))) ⌝ }
 {
     let mut file = RegFile::new();
     let mut run = start;
@@ -60,10 +66,9 @@ pub fn exec(
         let d = isa::codec::decode(code, run.pc as usize);
         let f = crate::fetch::fetch(d, run);
         match f {
-            Fetched::Refused(number, argument) => {
+            Fetched::Refused(end) => {
                 return Ended {
-                    number,
-                    argument,
+                    end,
                     fetches: run.fetches + 1,
                     run,
                     file,
@@ -81,12 +86,12 @@ pub fn exec(
                     consts,
                     reads,
                     writes,
-                    kreads,
-                    kwrites,
+                    keyed_reads,
+                    keyed_writes,
                     store,
                     loader,
                     replies,
-                    map,
+                    starts,
                     memory,
                     stack,
                     changes,
@@ -98,8 +103,10 @@ pub fn exec(
                 );
                 if t.fault != 0 {
                     return Ended {
-                        number: t.fault,
-                        argument: 0,
+                        end: Refusal {
+                            number: t.fault,
+                            argument: 0,
+                        },
                         fetches: q.fetches,
                         run: q,
                         file,
@@ -109,8 +116,10 @@ pub fn exec(
                 run = t.run;
                 if t.halted {
                     return Ended {
-                        number: 0,
-                        argument: 0,
+                        end: Refusal {
+                            number: 0,
+                            argument: 0,
+                        },
                         fetches: run.fetches,
                         run,
                         file,

@@ -7,11 +7,12 @@ use isa::codec::Decoded;
 use isa::instr::Instr;
 use machine::run::Paid;
 use machine::run::Run;
+use words::refusal::Refusal;
 
-// The run that the instruction steps from; or a number and its argument.
+// The run that the instruction steps from; or why there is none.
 pub enum Fetched {
     Done(Run),
-    Refused(u64, u64),
+    Refused(Refusal),
 }
 
 // The price is paid and the next address is below 2^32.
@@ -19,14 +20,18 @@ fn onward(i: Instr, n: usize, run: Run) -> Fetched
     requires { ⌜ run .pc + n < 18446744073709551616 ⌝ }
     ensures { λ r. ⌜ Onward (Decoded.Done i n) run r ⌝ }
 {
-    let p = i.parts_of();
-    let op = p.0;
-    let Paid::Done(paid) = run.pay(op.price()) else {
-        return Fetched::Refused(1, 0);
+    let Paid::Done(paid) = run.pay(i.opcode().price()) else {
+        return Fetched::Refused(Refusal {
+            number: 1,
+            argument: 0,
+        });
     };
     let next = run.pc + n as u64;
     if 4294967296 <= next {
-        return Fetched::Refused(7, 0);
+        return Fetched::Refused(Refusal {
+            number: 7,
+            argument: 0,
+        });
     }
     let mut at = paid;
     at.pc = next;
@@ -40,9 +45,12 @@ pub fn fetch(d: Decoded, run: Run) -> Fetched
 {
     let Decoded::Done(i, n) = d else {
         let Decoded::Refused(e) = d else {
-            return Fetched::Refused(17, 0);
+            return Fetched::Refused(Refusal {
+                number: 17,
+                argument: 0,
+            });
         };
-        return Fetched::Refused(e.number(), e.argument());
+        return Fetched::Refused(e.refusal());
     };
     let mut counted = run;
     counted.fetches = run.fetches + 1;

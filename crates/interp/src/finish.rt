@@ -1,10 +1,11 @@
 // What a run leaves.
 ghost use mathlib.Core.Path.{_≡_};
-ghost use Rattle.keys.specs.Bridge as tables;
+ghost use Rattle.keys.specs.Lent as tables;
 ghost use Rattle.interp.specs.Call.{lentAs};
 ghost use Rattle.interp.specs.Finished.{answerOf, Finishes};
 use crate::answer::Answer;
 use crate::exec::Ended;
+use words::refusal::Refusal;
 
 // The answer of a halt.
 fn halted(x: Ended) -> Answer
@@ -15,8 +16,10 @@ fn halted(x: Ended) -> Answer
     let meter = run.meter;
     let file = x.file;
     Answer {
-        number: 0,
-        argument: 0,
+        end: Refusal {
+            number: 0,
+            argument: 0,
+        },
         fetches: x.fetches,
         used: meter.used,
         fetched: rows.fetched as u64,
@@ -31,7 +34,7 @@ pub fn finish(
     x: Ended,
     memory: &mut [u8],
     stack: &mut [u64],
-    map: &mut [u8],
+    starts: &mut [u8],
     changes: &mut [u8],
     fetched: &mut [u8],
     readable: &mut [u8],
@@ -39,13 +42,18 @@ pub fn finish(
     paid: &mut [u8],
     log: &mut [u8],
 ) -> Answer
-    ensures { λ r. ⌜ Finishes x (lentAs (now (memory .entry)) (now (stack .entry)) (tables.bufs (now (changes .entry)) (now (fetched .entry)) (now (readable .entry)) (now (writable .entry)) (now (paid .entry))) (now (log .entry)) (now (map .entry))) r (lentAs (now (memory .exit)) (now (stack .exit)) (tables.bufs (now (changes .exit)) (now (fetched .exit)) (now (readable .exit)) (now (writable .exit)) (now (paid .exit))) (now (log .exit)) (now (map .exit))) ⌝ }
+    ensures { λ r. ⌜ Finishes x (lentAs (now (memory .entry)) (now (stack .entry))
+        (tables.bufs (now (changes .entry)) (now (fetched .entry)) (now (readable .entry)) (now (writable .entry)) (now (paid .entry))) (now (log .entry))
+        (now (starts .entry))) r (lentAs (now (memory .exit)) (now (stack .exit))
+        (tables.bufs (now (changes .exit)) (now (fetched .exit)) (now (readable .exit)) (now (writable .exit)) (now (paid .exit))) (now (log .exit))
+        (now (starts .exit))) ⌝ }
 {
-    crate::buffers::wipe_work(memory, stack, map, fetched, readable, writable, paid);
-    if x.number != 0 {
+    crate::buffers::wipe_work(memory, stack, starts, fetched, readable, writable, paid);
+    let end = x.end;
+    if end.number != 0 {
         crate::buffers::wipe(changes);
         crate::buffers::wipe(log);
-        return crate::answer::refused(x.number, x.argument, x.fetches);
+        return crate::answer::refused(end, x.fetches);
     }
     halted(x)
 }

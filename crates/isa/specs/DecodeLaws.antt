@@ -9,7 +9,7 @@ use native.Mathlib.Numerals.{add-one}
 use native.Mathlib.Nat.{zero-add, suc-add}
 use lib.Dec.{ltb, leb, leb·suc-suc}
 use lib.ListN.{length, getD, take, drop, length-drop, length-take, drop-of-length-le}
-use lib.Seq.{drop-cons, take-all, getD-take, getD-drop}
+use lib.Seq.{drop-cons, getD-take, getD-drop}
 use borrow.Author.Tests.{le-leb, lt-leb}
 use Rattle.words.specs.Choice.{pick}
 use Rattle.words.specs.Bytes.{num, Bytes}
@@ -59,10 +59,6 @@ refusal-is (suc n) w (b ∷ s) = by (ltb b 16) (refusal-is n w s)
 -- a number read is within its width
 pub read-within : (s : List ℕ) (n w v : ℕ) → n + w ≤ length s → Bytes s → v ≡ num (take w (drop n s)) → v < 256 ^ w
 read-within s n w v h k e = rw e (num-below w (drop n s) (rw length-drop (omega arith)) (λ (j : ℕ). rw getD-drop (k (n + j))))
-
--- a slice from k on is the list without its first k
-pub rest : (k : ℕ) (s : List ℕ) → take (length s - k) (drop k s) ≡ drop k s
-rest k s = take-all (length s - k) (drop k s) (rw length-drop (omega arith))
 
 module _ (o : OpCode) (s : List ℕ) (row : Row) (r : row ≡ rowOf o) where
   operands-by : (f : FirstBad) (t : Bool) → firstBad (take (row .1) s) ≡ f → leb (row .1 + row .2) (length s) ≡ t →

@@ -18,7 +18,7 @@ use Rattle.isa.specs.declared.codec.FirstBad.the-variants.{Bad, NoneBad}
 use Rattle.isa.specs.Table.{rowOf, lengthOf, regsOf, wideOf}
 use Rattle.isa.specs.TableLaws.{small}
 use Rattle.isa.specs.Forms.{formOf, padded, six}
-use Rattle.isa.specs.FormLaws.{length-regs, from-take, from-six}
+use Rattle.isa.specs.FormLaws.{length-regs, from-take, from-from}
 use Rattle.isa.specs.Codec.{bytesOf, firstBad, encodedWith, encodedOf, outputAfter, outputOf}
 
 -- a byte, then registers, then a number's bytes, each laid over what stood there
@@ -55,7 +55,7 @@ six-regs i =
     let n = regsOf (formOf i .op) in
     let r = formOf i .regs in
     let k : n ≤ length r = omega (arith, length-regs i) in
-    sym (from-take n (six r) (small (formOf i .op) .regs)) ∙ from-six n r (small (formOf i .op) .regs) ∙ from-take n r k ∙ take-all n r (omega (arith, length-regs i))
+    sym (from-take n (six r) (small (formOf i .op) .regs)) ∙ from-from 0 n 6 r (omega (arith, small (formOf i .op) .regs)) ∙ from-take n r k ∙ take-all n r (omega (arith, length-regs i))
 
 -- an instruction taken apart, and its opcode's row
 module _ (i : Instr) (p : Parts) (row : Row) (ep : p ≡ padded (formOf i)) (er : row ≡ rowOf (p .0)) where
@@ -65,7 +65,7 @@ module _ (i : Instr) (p : Parts) (row : Row) (ep : p ≡ padded (formOf i)) (er 
   pub regs-stand : row .1 ≤ length (p .1)
   regs-stand = rw (row-is, ep) (small (formOf i .op) .regs)
 
-  pub regs-are : take (row .1) (p .1) ≡ formOf i .regs
+  regs-are : take (row .1) (p .1) ≡ formOf i .regs
   regs-are = rw (row-is, ep) (six-regs i)
 
 module _ (i : Instr) (out : List ℕ) where

@@ -1,5 +1,5 @@
 -- Taking an instruction apart and putting it together undo one another. Assumes nothing.
-use Prim.Native.Nat.{ℕ, zero, suc, _+_, _≤_}
+use Prim.Native.Nat.{ℕ, zero, suc, _+_, _≤_, _<_}
 use mathlib.Core.Path.{_≡_, refl, sym, ap, _∙_}
 use mathlib.Core.List.{List}
 use native.Mathlib.Omega.{arith}
@@ -12,8 +12,7 @@ use Rattle.isa.specs.declared.instr.Instr.{Instr}
 use Rattle.isa.specs.declared.instr.Instr.the-variants as instr
 use Rattle.isa.specs.Table.{regsOf, wideOf}
 use Rattle.isa.specs.Computed.{from, kept, computed}
-use Rattle.isa.specs.TableLaws.{small}
-use Rattle.isa.specs.Forms.{Form, form, formOf, instrOf, six}
+use Rattle.isa.specs.Forms.{Form, form, formOf, instrOf, at}
 
 -- an instruction is that of its form
 pub rebuilt : (i : Instr) → instrOf (formOf i .op) (formOf i .regs) (formOf i .number) ≡ i
@@ -99,16 +98,18 @@ same-regs o r s n e =
     same-form (instrOf o r n) (instrOf o s n)
     (taken o r n ∙ ap (λ (l : List ℕ). form o l (pick (eqb (wideOf o) 0) 0 n)) e ∙ sym (taken o s n))
 
-pub from-six : (n : ℕ) (r : List ℕ) → n ≤ 6 → from 0 n (six r) ≡ from 0 n r
-from-six zero r h = refl
-from-six (suc zero) r h = refl
-from-six (suc (suc zero)) r h = refl
-from-six (suc (suc (suc zero))) r h = refl
-from-six (suc (suc (suc (suc zero)))) r h = refl
-from-six (suc (suc (suc (suc (suc zero))))) r h = refl
-from-six (suc (suc (suc (suc (suc (suc zero)))))) r h = refl
-from-six (suc (suc (suc (suc (suc (suc (suc n))))))) r h = absurd (omega arith)
+at-from : (j k i : ℕ) (r : List ℕ) → i < k → at (from j k r) i ≡ at r (j + i)
+at-from j zero i r h = absurd (omega arith)
+at-from j (suc k) zero r h = let e : j + 0 ≡ j = omega arith in rw e
+at-from j (suc k) (suc i) r h = let e : j + suc i ≡ suc j + i = omega arith in rw e (at-from (suc j) k i r (omega arith))
 
--- six registers are enough for any opcode
-pub six-enough : (o : OpCode) (r : List ℕ) (n : ℕ) → instrOf o (six r) n ≡ instrOf o r n
-six-enough o r n = same-regs o (six r) r n (from-six (regsOf o) r (small o .regs))
+-- of the first k registers, the first of them are the same
+pub from-from : (j n k : ℕ) (r : List ℕ) → j + n ≤ k → from j n (from 0 k r) ≡ from j n r
+from-from j zero k r h = refl
+from-from j (suc n) k r h =
+    let e : 0 + j ≡ j = omega arith in
+    rw (at-from 0 k j r (omega arith), e, from-from (suc j) n k r (omega arith))
+
+-- its own registers are enough for an opcode
+pub own-regs : (o : OpCode) (r : List ℕ) (n : ℕ) → instrOf o (from 0 (regsOf o) r) n ≡ instrOf o r n
+own-regs o r n = same-regs o (from 0 (regsOf o) r) r n (from-from 0 (regsOf o) (regsOf o) r (omega arith))

@@ -1,6 +1,6 @@
 -- Laws of the opcode table: every opcode is found by its byte, and what a test says of every row holds of each. Assumes nothing.
 use Prim.Native.Nat.{ℕ, _≤_}
-use mathlib.Core.Path.{_≡_, refl}
+use mathlib.Core.Path.{_≡_, refl, sym, ap, _∙_}
 use mathlib.Core.List.{List, [], _∷_}
 use mathlib.Core.Bool.{Bool, true, false}
 use lib.Dec.{leb, eqb}
@@ -77,6 +77,14 @@ all-of f (o ∷ os) h = by (f o) refl h (all-of f os)
 -- a test computed over the table holds at each opcode
 pub tests : (f : OpCode → Bool) → allOf f opcodes ≡ true → (o : OpCode) → f o ≡ true
 tests f h = each (λ (o : OpCode). f o ≡ true) (all-of f opcodes h)
+
+-- and where a second test holds wherever a first does
+pub tests-where : (a b : OpCode → Bool) → allOf (λ (o : OpCode). pick (a o) (b o) true) opcodes ≡ true → (o : OpCode) → a o ≡ true → b o ≡ true
+tests-where a b h o e = rw e at (tests (λ (o : OpCode). pick (a o) (b o) true) h o)
+
+-- two opcodes of one byte are one
+pub same-byte : (o p : OpCode) → byteOf o ≡ byteOf p → o ≡ p
+same-byte o p e = let k : Known o ≡ Known p = sym (known o) ∙ ap opAt e ∙ known p in cc
 
 -- no opcode has more than 6 registers, more than 8 bytes of number or more than 10 bytes in all
 pub record Small (o : OpCode) : Type 0 where

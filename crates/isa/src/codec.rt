@@ -1,17 +1,18 @@
 // Reading an instruction from bytes, and writing it as bytes.
 ghost use mathlib.Core.Path.{_≡_};
 ghost use mathlib.Core.List.{_∷_, _++_};
-ghost use Prim.Native.Nat.{_+_, _≤_, _<_, _^_};
-ghost use lib.ListN.{length, getD, take, drop};
+ghost use Prim.Native.Nat.{_+_, _≤_};
+ghost use lib.ListN.{length, take, drop};
 ghost use Rattle.words.specs.Bytes.{beBytes};
-ghost use Rattle.isa.specs.Table.{wideOf};
-ghost use Rattle.isa.specs.Forms.{formOf, instrOf};
-ghost use Rattle.isa.specs.Codec.{firstBad, operandsOf, decodeAt, encodedOf, outputOf};
+ghost use Rattle.isa.specs.Forms.{formOf};
+ghost use Rattle.isa.specs.Codec.{firstBad, refusalIn, operandsOf, decodeAt, encodedOf, outputOf};
 ghost use Rattle.isa.specs.Reads.{byteRead, regRead};
+ghost use Rattle.isa.specs.Shapes.{Shape, isNone, refusedBy};
 ghost use Rattle.isa.specs.Answers.{decodeError, encodeError};
 use super::instr::Instr;
 use super::opcode::Op;
 use super::opcode::OpCode;
+use words::refusal::Refusal;
 
 pub enum DecodeError {
     UnknownOpcode(u8),
@@ -52,43 +53,33 @@ pub enum FirstBad {
 }
 
 impl DecodeError {
-    pub fn number(self) -> u64
-        ensures { λ r. ⌜ r ≡ decodeError self .number ⌝ }
+    pub fn refusal(self) -> Refusal
+        ensures { λ r. ⌜ r ≡ decodeError self ⌝ }
     {
         match self {
-            DecodeError::UnknownOpcode(_) => 15,
-            DecodeError::BadRegister(_) => 16,
-            DecodeError::Truncated => 17,
-        }
-    }
-
-    pub fn argument(self) -> u64
-        ensures { λ r. ⌜ r ≡ decodeError self .argument ⌝ }
-    {
-        match self {
-            DecodeError::UnknownOpcode(b) => b as u64,
-            DecodeError::BadRegister(b) => b as u64,
-            DecodeError::Truncated => 0,
+            DecodeError::UnknownOpcode(b) => Refusal {
+                number: 15,
+                argument: b as u64,
+            },
+            DecodeError::BadRegister(b) => Refusal {
+                number: 16,
+                argument: b as u64,
+            },
+            DecodeError::Truncated => Refusal::numbered(17),
         }
     }
 }
 
 impl EncodeError {
-    pub fn number(self) -> u64
-        ensures { λ r. ⌜ r ≡ encodeError self .number ⌝ }
+    pub fn refusal(self) -> Refusal
+        ensures { λ r. ⌜ r ≡ encodeError self ⌝ }
     {
         match self {
-            EncodeError::BadRegister(_) => 16,
-            EncodeError::NoRoom => 48,
-        }
-    }
-
-    pub fn argument(self) -> u64
-        ensures { λ r. ⌜ r ≡ encodeError self .argument ⌝ }
-    {
-        match self {
-            EncodeError::BadRegister(b) => b as u64,
-            EncodeError::NoRoom => 0,
+            EncodeError::BadRegister(b) => Refusal {
+                number: 16,
+                argument: b as u64,
+            },
+            EncodeError::NoRoom => Refusal::numbered(48),
         }
     }
 }
@@ -148,58 +139,133 @@ fn first_bad(s: &[u8], n: usize) -> FirstBad
     FirstBad::NoneBad
 }
 
-fn byte_at(s: &[u8], k: usize) -> u8
-    ensures { λ r. ⌜ r ≡ getD (now (s .entry)) k 0 ⌝ }
+// Whether n registers and w bytes of a number stand at the start of s.
+fn stands(s: &[u8], n: usize, w: usize) -> bool
+    requires { ⌜ n + w ≤ 9 ⌝ }
+    ensures { λ r. ⌜ r ≡ isNone (refusalIn n w (now (s .entry))) ⌝ }
 {
-    if k < s.len() { s[k] } else { 0 }
+    if s.len() < n + w {
+        return false;
+    }
+    let mut i = 0;
+    while i < n {
+        if s[i] >= OpCode::NUM_REGS {
+            return false;
+        }
+        i += 1;
+    }
+    true
 }
 
-// The instruction of an opcode, of the registers that s begins with and of a number within the opcode's width.
-fn instr_of(op: OpCode, s: &[u8], num: u64) -> Instr
-    requires { ⌜ num < 256 ^ wideOf op ⌝ }
-    ensures { λ r. ⌜ r ≡ instrOf op (now (s .entry)) num ⌝ }
+// Why they do not: the first bad register of those that stand, or else that bytes are missing.
+fn refused(s: &[u8], n: usize) -> Decoded
+    ensures { λ r. ⌜ r ≡ refusedBy (firstBad (take n (now (s .entry)))) ⌝ }
 {
-    let r0 = byte_at(s, 0);
-    let r1 = byte_at(s, 1);
-    let r2 = byte_at(s, 2);
-    let r3 = byte_at(s, 3);
-    let r4 = byte_at(s, 4);
-    let r5 = byte_at(s, 5);
-    super::instr::build(op, r0, r1, r2, r3, r4, r5, num)
-}
-
-// What the bytes after an opcode say.
-fn operands(op: OpCode, s: &[u8]) -> Decoded
-    ensures { λ r. ⌜ r ≡ operandsOf op (now (s .entry)) ⌝ }
-{
-    let row = op.row();
-    let n = row.1;
-    let w = row.2;
     if let FirstBad::Bad(b) = first_bad(s, n) {
         return Decoded::Refused(DecodeError::BadRegister(b));
     }
-    if s.len() < n + w {
-        return Decoded::Refused(DecodeError::Truncated);
+    Decoded::Refused(DecodeError::Truncated)
+}
+
+// What the bytes after an opcode say, by its shape: no register, and w bytes of a number.
+fn none(op: OpCode, s: &[u8], w: usize) -> Decoded
+    requires { ⌜ Shape op 0 w ⌝ }
+    ensures { λ r. ⌜ r ≡ operandsOf op (now (s .entry)) ⌝ }
+{
+    if w == 0 {
+        return Decoded::Done(super::instr::plain(op), 1);
     }
-    let num = words::bytes::read(s, n, w);
-    let i = instr_of(op, s, num);
-    Decoded::Done(i, 1 + n + w)
+    if !stands(s, 0, 4) {
+        return refused(s, 0);
+    }
+    Decoded::Done(super::instr::jump(op, words::bytes::read(s, 0, 4)), 5)
+}
+
+// One register, and w bytes of a number.
+fn one(op: OpCode, s: &[u8], w: usize) -> Decoded
+    requires { ⌜ Shape op 1 w ⌝ }
+    ensures { λ r. ⌜ r ≡ operandsOf op (now (s .entry)) ⌝ }
+{
+    if !stands(s, 1, w) {
+        return refused(s, 1);
+    }
+    let r0 = s[0];
+    match w {
+        0 => Decoded::Done(super::instr::with_one(op, r0), 2),
+        2 => Decoded::Done(
+            Instr::Ldc {
+                d: r0,
+                idx: (words::bytes::read(s, 1, 2) % 65536) as u16,
+            },
+            4,
+        ),
+        4 => Decoded::Done(super::instr::branch(op, r0, words::bytes::read(s, 1, 4)), 6),
+        _ => Decoded::Done(
+            Instr::Ldi {
+                d: r0,
+                imm: words::bytes::read(s, 1, 8),
+            },
+            10,
+        ),
+    }
+}
+
+fn two(op: OpCode, s: &[u8]) -> Decoded
+    requires { ⌜ Shape op 2 0 ⌝ }
+    ensures { λ r. ⌜ r ≡ operandsOf op (now (s .entry)) ⌝ }
+{
+    if !stands(s, 2, 0) {
+        return refused(s, 2);
+    }
+    Decoded::Done(super::instr::with_two(op, s[0], s[1]), 3)
+}
+
+fn three(op: OpCode, s: &[u8]) -> Decoded
+    requires { ⌜ Shape op 3 0 ⌝ }
+    ensures { λ r. ⌜ r ≡ operandsOf op (now (s .entry)) ⌝ }
+{
+    if !stands(s, 3, 0) {
+        return refused(s, 3);
+    }
+    Decoded::Done(super::instr::with_three(op, s[0], s[1], s[2]), 4)
+}
+
+fn six(op: OpCode, s: &[u8]) -> Decoded
+    requires { ⌜ Shape op 6 0 ⌝ }
+    ensures { λ r. ⌜ r ≡ operandsOf op (now (s .entry)) ⌝ }
+{
+    if !stands(s, 6, 0) {
+        return refused(s, 6);
+    }
+    Decoded::Done(
+        super::instr::with_six(op, s[0], s[1], s[2], s[3], s[4], s[5]),
+        7,
+    )
 }
 
 // The instruction at a place of the code and its length, or the first refusal met.
 pub fn decode(code: &[u8], place: usize) -> Decoded
     ensures { λ r. ⌜ r ≡ decodeAt (now (code .entry)) place ⌝ }
 {
-    let first = read_byte(code, place);
-    let got = first.got;
-    let Got::Byte(b) = got else {
+    if code.len() <= place {
         return Decoded::Refused(DecodeError::Truncated);
-    };
+    }
+    let b = code[place];
     let Op::Known(op) = OpCode::from_byte(b) else {
         return Decoded::Refused(DecodeError::UnknownOpcode(b));
     };
-    let at = first.at;
-    operands(op, &code[at..])
+    let at = place + 1;
+    let s = &code[at..];
+    let row = op.row();
+    let n = row.1;
+    let w = row.2;
+    match n {
+        0 => return none(op, s, w),
+        1 => return one(op, s, w),
+        2 => return two(op, s),
+        3 => return three(op, s),
+        _ => return six(op, s),
+    }
 }
 
 // A byte, the first n registers and the low w bytes of a number, one after the other from the start of out.
@@ -219,8 +285,8 @@ pub fn bad_register(i: Instr) -> FirstBad
     let p = i.parts_of();
     let op = p.0;
     let r = p.1;
-    let row = op.row();
-    first_bad(&r, row.1)
+    let n = op.registers();
+    first_bad(&r, n)
 }
 
 // The bytes of an instruction into the output, and how many; a refusal leaves the output as it is.

@@ -2,8 +2,8 @@
 ghost use mathlib.Core.Path.{_≡_};
 ghost use mathlib.Core.List.{_∷_, []};
 ghost use Prim.Native.Nat.{_<_, _^_};
-ghost use Rattle.isa.specs.Table.{wideOf};
 ghost use Rattle.isa.specs.Forms.{formOf, padded, instrOf};
+ghost use Rattle.isa.specs.Shapes.{Shape};
 use super::opcode::OpCode;
 
 pub enum Instr {
@@ -204,6 +204,13 @@ pub enum Instr {
 pub struct Parts(pub OpCode, pub [u8; 6], pub u64);
 
 impl Instr {
+    pub fn opcode(self) -> OpCode
+        ensures { λ r. ⌜ r ≡ formOf self .op ⌝ }
+    {
+        let p = self.parts_of();
+        p.0
+    }
+
     pub fn parts_of(self) -> Parts
         ensures { λ r. ⌜ r ≡ padded (formOf self) ⌝ }
     {
@@ -269,20 +276,76 @@ impl Instr {
     }
 }
 
-// The instruction of an opcode, of six registers of which it takes as many as it has, and of a number within its width.
-pub fn build(op: OpCode, r0: u8, r1: u8, r2: u8, r3: u8, r4: u8, r5: u8, num: u64) -> Instr
-    requires { ⌜ num < 256 ^ wideOf op ⌝ }
-    ensures { λ r. ⌜ r ≡ instrOf op (r0 ∷ r1 ∷ r2 ∷ r3 ∷ r4 ∷ r5 ∷ []) num ⌝ }
+// The instruction of an opcode, by its shape: of no register and no number.
+pub fn plain(op: OpCode) -> Instr
+    ensures { λ r. ⌜ (Shape op 0 0 → r ≡ instrOf op [] 0) ⌝ }
 {
     match op {
         OpCode::Halt => Instr::Halt,
         OpCode::Nop => Instr::Nop,
-        OpCode::Mov => Instr::Mov { d: r0, a: r1 },
-        OpCode::Ldi => Instr::Ldi { d: r0, imm: num },
-        OpCode::Ldc => Instr::Ldc {
-            d: r0,
-            idx: (num % 65536) as u16,
+        _ => Instr::Ret,
+    }
+}
+
+// Of a number of four bytes.
+pub fn jump(op: OpCode, num: u64) -> Instr
+    ensures { λ r. ⌜ (Shape op 0 4 → num < 256 ^ 4 → r ≡ instrOf op [] num) ⌝ }
+{
+    match op {
+        OpCode::Jmp => Instr::Jmp {
+            target: (num % 4294967296) as u32,
         },
+        _ => Instr::Call {
+            target: (num % 4294967296) as u32,
+        },
+    }
+}
+
+// Of one register.
+pub fn with_one(op: OpCode, r0: u8) -> Instr
+    ensures { λ r. ⌜ (Shape op 1 0 → r ≡ instrOf op (r0 ∷ []) 0) ⌝ }
+{
+    match op {
+        OpCode::Push => Instr::Push { a: r0 },
+        _ => Instr::Pop { d: r0 },
+    }
+}
+
+// Of one register and a number of four bytes.
+pub fn branch(op: OpCode, r0: u8, num: u64) -> Instr
+    ensures { λ r. ⌜ (Shape op 1 4 → num < 256 ^ 4 → r ≡ instrOf op (r0 ∷ []) num) ⌝ }
+{
+    match op {
+        OpCode::Jz => Instr::Jz {
+            a: r0,
+            target: (num % 4294967296) as u32,
+        },
+        _ => Instr::Jnz {
+            a: r0,
+            target: (num % 4294967296) as u32,
+        },
+    }
+}
+
+// Of two registers.
+pub fn with_two(op: OpCode, r0: u8, r1: u8) -> Instr
+    ensures { λ r. ⌜ (Shape op 2 0 → r ≡ instrOf op (r0 ∷ r1 ∷ []) 0) ⌝ }
+{
+    match op {
+        OpCode::Mov => Instr::Mov { d: r0, a: r1 },
+        OpCode::Not => Instr::Not { d: r0, a: r1 },
+        OpCode::MLoad => Instr::MLoad { d: r0, a: r1 },
+        OpCode::MStore => Instr::MStore { a: r0, b: r1 },
+        OpCode::SLoad => Instr::SLoad { d: r0, a: r1 },
+        _ => Instr::SStore { a: r0, b: r1 },
+    }
+}
+
+// Of three registers.
+pub fn with_three(op: OpCode, r0: u8, r1: u8, r2: u8) -> Instr
+    ensures { λ r. ⌜ (Shape op 3 0 → r ≡ instrOf op (r0 ∷ r1 ∷ r2 ∷ []) 0) ⌝ }
+{
+    match op {
         OpCode::Add => Instr::Add {
             d: r0,
             a: r1,
@@ -328,22 +391,6 @@ pub fn build(op: OpCode, r0: u8, r1: u8, r2: u8, r3: u8, r4: u8, r5: u8, num: u6
             a: r1,
             b: r2,
         },
-        OpCode::DivW => Instr::DivW {
-            dlo: r0,
-            dhi: r1,
-            alo: r2,
-            ahi: r3,
-            blo: r4,
-            bhi: r5,
-        },
-        OpCode::RemW => Instr::RemW {
-            dlo: r0,
-            dhi: r1,
-            alo: r2,
-            ahi: r3,
-            blo: r4,
-            bhi: r5,
-        },
         OpCode::And => Instr::And {
             d: r0,
             a: r1,
@@ -359,7 +406,6 @@ pub fn build(op: OpCode, r0: u8, r1: u8, r2: u8, r3: u8, r4: u8, r5: u8, num: u6
             a: r1,
             b: r2,
         },
-        OpCode::Not => Instr::Not { d: r0, a: r1 },
         OpCode::Shl => Instr::Shl {
             d: r0,
             a: r1,
@@ -385,27 +431,6 @@ pub fn build(op: OpCode, r0: u8, r1: u8, r2: u8, r3: u8, r4: u8, r5: u8, num: u6
             a: r1,
             b: r2,
         },
-        OpCode::Push => Instr::Push { a: r0 },
-        OpCode::Pop => Instr::Pop { d: r0 },
-        OpCode::MLoad => Instr::MLoad { d: r0, a: r1 },
-        OpCode::MStore => Instr::MStore { a: r0, b: r1 },
-        OpCode::Jmp => Instr::Jmp {
-            target: (num % 4294967296) as u32,
-        },
-        OpCode::Jz => Instr::Jz {
-            a: r0,
-            target: (num % 4294967296) as u32,
-        },
-        OpCode::Jnz => Instr::Jnz {
-            a: r0,
-            target: (num % 4294967296) as u32,
-        },
-        OpCode::Call => Instr::Call {
-            target: (num % 4294967296) as u32,
-        },
-        OpCode::Ret => Instr::Ret,
-        OpCode::SLoad => Instr::SLoad { d: r0, a: r1 },
-        OpCode::SStore => Instr::SStore { a: r0, b: r1 },
         OpCode::Send => Instr::Send {
             a: r0,
             b: r1,
@@ -436,10 +461,34 @@ pub fn build(op: OpCode, r0: u8, r1: u8, r2: u8, r3: u8, r4: u8, r5: u8, num: u6
             b: r1,
             c: r2,
         },
-        OpCode::Addr => Instr::Addr {
+        _ => Instr::Addr {
             a: r0,
             b: r1,
             c: r2,
+        },
+    }
+}
+
+// Of six registers.
+pub fn with_six(op: OpCode, r0: u8, r1: u8, r2: u8, r3: u8, r4: u8, r5: u8) -> Instr
+    ensures { λ r. ⌜ (Shape op 6 0 → r ≡ instrOf op (r0 ∷ r1 ∷ r2 ∷ r3 ∷ r4 ∷ r5 ∷ []) 0) ⌝ }
+{
+    match op {
+        OpCode::DivW => Instr::DivW {
+            dlo: r0,
+            dhi: r1,
+            alo: r2,
+            ahi: r3,
+            blo: r4,
+            bhi: r5,
+        },
+        _ => Instr::RemW {
+            dlo: r0,
+            dhi: r1,
+            alo: r2,
+            ahi: r3,
+            blo: r4,
+            bhi: r5,
         },
     }
 }

@@ -1,6 +1,7 @@
 // The opcodes, each with its byte, its length and its base price.
 ghost use mathlib.Core.Path.{_≡_};
-ghost use Rattle.isa.specs.Table.{rowOf, byteOf, lengthOf, priceOf, opAt};
+ghost use Rattle.isa.specs.Table.{rowOf, byteOf, regsOf, wideOf, lengthOf, priceOf, opAt};
+ghost use Rattle.isa.specs.Kinds.{kindOf, registerOp};
 
 pub enum OpCode {
     Halt,
@@ -54,6 +55,13 @@ pub struct Row(pub u8, pub usize, pub usize, pub u64);
 pub enum Op {
     Known(OpCode),
     Unknown,
+}
+
+// Opcodes that work on registers alone; Ldc, which names a constant; the others.
+pub enum Kind {
+    Registers,
+    Constant,
+    Other,
 }
 
 impl OpCode {
@@ -170,6 +178,20 @@ impl OpCode {
         row.0
     }
 
+    pub fn registers(self) -> usize
+        ensures { λ r. ⌜ r ≡ regsOf self ⌝ }
+    {
+        let row = self.row();
+        row.1
+    }
+
+    pub fn wide(self) -> usize
+        ensures { λ r. ⌜ r ≡ wideOf self ⌝ }
+    {
+        let row = self.row();
+        row.2
+    }
+
     pub fn length(self) -> usize
         ensures { λ r. ⌜ r ≡ lengthOf self ⌝ }
     {
@@ -182,5 +204,48 @@ impl OpCode {
     {
         let row = self.row();
         row.3
+    }
+
+    pub fn kind(self) -> Kind
+        ensures { λ r. ⌜ r ≡ kindOf self ⌝ }
+    {
+        match self {
+            OpCode::Mov
+            | OpCode::Ldi
+            | OpCode::Add
+            | OpCode::Sub
+            | OpCode::Mul
+            | OpCode::Div
+            | OpCode::Rem
+            | OpCode::AddW
+            | OpCode::SubW
+            | OpCode::MulW
+            | OpCode::MulHi
+            | OpCode::DivW
+            | OpCode::RemW
+            | OpCode::And
+            | OpCode::Or
+            | OpCode::Xor
+            | OpCode::Not
+            | OpCode::Shl
+            | OpCode::Shr
+            | OpCode::Eq
+            | OpCode::LtU
+            | OpCode::GtU => Kind::Registers,
+            OpCode::Ldc => Kind::Constant,
+            _ => Kind::Other,
+        }
+    }
+
+    // Mov, Ldi and Add to GtU.
+    pub fn is_register_op(self) -> bool
+        ensures { λ r. ⌜ r ≡ registerOp self ⌝ }
+    {
+        let kind = self.kind();
+        match kind {
+            Kind::Registers => true,
+            Kind::Constant => false,
+            Kind::Other => false,
+        }
     }
 }

@@ -3,6 +3,7 @@ use mathlib.Core.Path.{_≡_, sym, ap, _∙_}
 use mathlib.Core.Bool.{Bool, true}
 use mathlib.Core.List.{List}
 use Prim.Native.Nat.{ℕ}
+use Rattle.words.specs.Bytes.{wordsIn}
 use Rattle.words.specs.Choice.{either}
 use Rattle.words.specs.ChoiceLaws.{both-left, both-right, both-true}
 use Rattle.words.specs.Lists.{member}
@@ -10,15 +11,15 @@ use Rattle.tables.specs.Rows.{rows}
 use Rattle.keys.specs.Known.{Env, Keys}
 use Rattle.keys.specs.Values.{row, has}
 use Rattle.keys.specs.Steps.{fits, keyed, keyPrice, keyPriceAt, keyBytes, keyBytesAt, authorised}
-use Rattle.keys.specs.Slots.{slots}
-use Rattle.keys.specs.Bridge.{Bufs, Given, bufs, envOf, keysOf, roomsOf, Good, Put, Leaves, holds}
+use Rattle.keys.specs.Lent.{Bufs, Given, bufs, envOf, keysOf, roomsOf}
+use Rattle.keys.specs.Sound.{Good, Put, Leaves, holds}
 use Rattle.keys.specs.KeyPlans.{keyPlan, keyFits, KeyReady}
 use Rattle.keys.specs.RoomLaws.{table-fits, held-put}
 use Rattle.keys.specs.declared.counts.Counts.{Counts}
-use Rattle.keys.specs.declared.look.Lent.{Lent}
+use Rattle.keys.specs.declared.look.TableRows.{TableRows}
 use Rattle.keys.specs.declared.authorise.KeyPlan.{KeyPlan}
 
-module _ (l : Lent) (g : Given) (c : Counts) (b : Bufs) (ok : Good c b) (base k : ℕ) where
+module _ (l : TableRows) (g : Given) (c : Counts) (b : Bufs) (ok : Good c b) (base k : ℕ) where
   abbrev e : Env
   e = envOf l g
 
@@ -26,13 +27,21 @@ module _ (l : Lent) (g : Given) (c : Counts) (b : Bufs) (ok : Good c b) (base k 
   s = keysOf c b
 
   -- the three tables that authorising leaves alone fit
-  room-is : (write : Bool) → write ≡ member base (slots (g .keyed-writes)) → keyFits c k write (b .may-read) (b .may-write) ≡ fits (roomsOf b) (authorised e s base k)
+  room-is : (write : Bool) → write ≡ member base (wordsIn (g .keyed-writes))
+      → keyFits c k write (b .may-read) (b .may-write) ≡ fits (roomsOf b) (authorised e s base k)
   unfolding fits authorised keyFits
   room-is write q =
-      rw (← q, table-fits 40 (c .changes) (b .changes) (ok .changes .table), table-fits 40 (c .fetched) (b .fetched) (ok .fetched .table), table-fits 32 (c .paid) (b .paid) (ok .paid .table), both-true (holds 32 (c .writes) write (row k 0) (b .may-write)))
+      rw (
+        ← q,
+        table-fits 40 (c .changes) (b .changes) (ok .changes .table),
+        table-fits 40 (c .fetched) (b .fetched) (ok .fetched .table),
+        table-fits 32 (c .paid) (b .paid) (ok .paid .table),
+        both-true (holds 32 (c .writes) write (row k 0) (b .may-write)),
+      )
 
   -- the parts of a plan
-  module _ (is write written read room : Bool) (price bytes : ℕ) (qw : write ≡ member base (slots (g .keyed-writes))) (qk : is ≡ either write (member base (slots (g .keyed-reads))))
+  module _ (is write written read room : Bool) (price bytes : ℕ) (qw : write ≡ member base (wordsIn (g .keyed-writes)))
+      (qk : is ≡ either write (member base (wordsIn (g .keyed-reads))))
       (qu : written ≡ has k (rows 32 (c .writes) (b .may-write))) (qr : read ≡ has k (rows 32 (c .reads) (b .may-read)))
       (qp : price ≡ keyPrice written read) (qb : bytes ≡ keyBytes write written read) (qf : room ≡ keyFits c k write (b .may-read) (b .may-write)) where
     keyed-is : is ≡ keyed e base
@@ -53,7 +62,7 @@ module _ (l : Lent) (g : Given) (c : Counts) (b : Bufs) (ok : Good c b) (base k 
 
   -- a plan
   module _ (p : KeyPlan) (q : p ≡ keyPlan (roomsOf b) e s base k) where
-    write-is : p .write ≡ member base (slots (g .keyed-writes))
+    write-is : p .write ≡ member base (wordsIn (g .keyed-writes))
     unfolding keyPlan
     write-is = ap (λ (x : KeyPlan). x .write) q
 
@@ -69,10 +78,19 @@ module _ (l : Lent) (g : Given) (c : Counts) (b : Bufs) (ok : Good c b) (base k 
         let f = fits-is ∙ r in
         record { read-held = ok .may-read .table; write-held = ok .may-write .table; read-fit = both-left x y f; write-fit = both-right x y f }
 
-    pub authorised-so : (nr nw : ℕ) (ur uw : List ℕ) → Put 32 (c .reads) nr true (row k 0) (b .may-read) ur → Put 32 (c .writes) nw (p .write) (row k 0) (b .may-write) uw
-        → Leaves (authorised e s base k) (record { changes = c .changes; fetched = c .fetched; reads = nr; writes = nw; paid = c .paid }) (bufs (b .changes) (b .fetched) ur uw (b .paid))
+    pub authorised-so : (nr nw : ℕ) (ur uw : List ℕ) → Put 32 (c .reads) nr true (row k 0) (b .may-read) ur
+        → Put 32 (c .writes) nw (p .write) (row k 0) (b .may-write) uw
+        → Leaves (authorised e s base k)
+        (record { changes = c .changes; fetched = c .fetched; reads = nr; writes = nw; paid = c .paid })
+        (bufs (b .changes) (b .fetched) ur uw (b .paid))
     unfolding authorised
     authorised-so nr nw ur uw pr pw = record {
       are = rw (← write-is, pr .are, pw .are);
-      good = record { changes = ok .changes; fetched = ok .fetched; may-read = held-put _ _ _ _ _ _ _ (ok .may-read) pr; may-write = held-put _ _ _ _ _ _ _ (ok .may-write) pw; paid = ok .paid };
+      good = record {
+        changes = ok .changes;
+        fetched = ok .fetched;
+        may-read = held-put _ _ _ _ _ _ _ (ok .may-read) pr;
+        may-write = held-put _ _ _ _ _ _ _ (ok .may-write) pw;
+        paid = ok .paid;
+      };
     }

@@ -9,9 +9,10 @@ use Rattle.tables.specs.Table.{Table}
 use Rattle.keys.specs.Known.{Env, Keys, Rooms}
 use Rattle.keys.specs.Values.{row}
 use Rattle.keys.specs.Steps.{fits, keyed, keyPriceAt, keyBytesAt, authorised}
-use Rattle.keys.specs.Bridge.{Bufs, Given, envOf, keysOf, roomsOf, Good, Leaves, holds}
+use Rattle.keys.specs.Lent.{Bufs, Given, envOf, keysOf, roomsOf}
+use Rattle.keys.specs.Sound.{Good, Leaves, holds}
 use Rattle.keys.specs.declared.counts.Counts.{Counts}
-use Rattle.keys.specs.declared.look.Lent.{Lent}
+use Rattle.keys.specs.declared.look.TableRows.{TableRows}
 use Rattle.keys.specs.declared.authorise.KeyPlan.{KeyPlan}
 
 -- whether the base is declared keyed, and for writing; the price, the bytes of new entries, and whether every table holds what is authorised
@@ -25,11 +26,11 @@ keyPlan r e s base k = record {
 }
 
 -- a plan made over good tables is that plan
-abbrev pub PlansKey : Lent → Given → Counts → Bufs → (base k : ℕ) → KeyPlan → Type 0
+abbrev pub PlansKey : TableRows → Given → Counts → Bufs → (base k : ℕ) → KeyPlan → Type 0
 PlansKey l g c b base k p = Good c b → p ≡ keyPlan (roomsOf b) (envOf l g) (keysOf c b) base k
 
 -- over good tables, and as planned, authorising leaves what the rule says
-abbrev pub Authorises : Lent → Given → (base k : ℕ) → KeyPlan → (c r : Counts) → (b a : Bufs) → Type 0
+abbrev pub Authorises : TableRows → Given → (base k : ℕ) → KeyPlan → (c r : Counts) → (b a : Bufs) → Type 0
 Authorises l g base k p c r b a = Good c b → p ≡ keyPlan (roomsOf b) (envOf l g) (keysOf c b) base k → Leaves (authorised (envOf l g) (keysOf c b) base k) r a
 
 -- the two lists hold the key

@@ -1,49 +1,28 @@
--- Before the first step: zeroed tables hold no rows. Assumes nothing.
-use mathlib.Core.Path.{_≡_, refl}
+-- Before the first step: no rows, nothing known, every byte zero.
+use mathlib.Core.Path.{_≡_}
 use mathlib.Core.List.{List, []}
-use Prim.Native.Nat.{ℕ, _*_, _-_, _≤_}
-use native.Mathlib.Omega.{arith}
-use native.Mathlib.Nat.{zero-mul}
+use Prim.Native.Nat.{ℕ}
 use lib.ListN.{length, replicate}
-use Rattle.tables.specs.Rows.{rows}
 use Rattle.keys.specs.Known.{Keys}
-use Rattle.keys.specs.Bridge.{Bufs, keysOf, Held, Good}
+use Rattle.keys.specs.Lent.{Bufs}
 use Rattle.keys.specs.declared.counts.Counts.{Counts}
 
--- no rows in any table, and nothing known of any key
+-- no rows in any table
 abbrev pub noRows : Counts
 noRows = record { changes = 0; fetched = 0; reads = 0; writes = 0; paid = 0 }
 
+-- nothing known of any key
 abbrev pub noKeys : Keys
 noKeys = record { changes = []; fetched = []; may-read = []; may-write = []; paid = [] }
 
--- every byte of every table is 0
+-- every byte is 0
 abbrev pub Zero : List ℕ → Type 0
 Zero t = t ≡ replicate (length t) 0
 
+-- in every table
 pub record Wiped (b : Bufs) : Type 0 where
   pub changes : Zero (b .changes)
   pub fetched : Zero (b .fetched)
   pub may-read : Zero (b .may-read)
   pub may-write : Zero (b .may-write)
   pub paid : Zero (b .paid)
-
-held-none : (w : ℕ) (t : List ℕ) → 32 ≤ w → Zero t → Held w 0 t
-unfolding rows
-held-none w t h z =
-    let e : 0 * w ≡ 0 = zero-mul w in
-    let n : length t - 0 ≡ length t = omega arith in
-    record { table = record { wide = h; fits = omega (arith, e); rising = tt }; rest = rw (e, n) z }
-
-pub opening-good : (b : Bufs) → Wiped b → Good noRows b
-opening-good b z = record {
-  changes = held-none 40 (b .changes) (omega arith) (z .changes);
-  fetched = held-none 40 (b .fetched) (omega arith) (z .fetched);
-  may-read = held-none 32 (b .may-read) (omega arith) (z .may-read);
-  may-write = held-none 32 (b .may-write) (omega arith) (z .may-write);
-  paid = held-none 32 (b .paid) (omega arith) (z .paid);
-}
-
-pub opening-keys : (b : Bufs) → keysOf noRows b ≡ noKeys
-unfolding rows
-opening-keys b = refl

@@ -18,7 +18,7 @@ use Rattle.tables.specs.TableTheorems.{inserted-table}
 use Rattle.tables.specs.declared.store.Stored.{Stored}
 use Rattle.tables.specs.declared.store.Stored.the-variants.{Count}
 use Rattle.keys.specs.Values.{putIf}
-use Rattle.keys.specs.Bridge.{Held, Put, holds, countOr}
+use Rattle.keys.specs.Sound.{Held, Put, holds, countOr}
 
 -- ---- room for a key
 

@@ -20,6 +20,7 @@ fits r s =
 
 -- ---- loading a key
 
+-- a value that came from the loader is remembered
 unfoldable pub loaded : Env → Keys → ℕ → Keys
 loaded e s k = record {
   changes = s .changes;
@@ -35,6 +36,7 @@ loaded e s k = record {
 unfoldable pub paysFresh : (v prior : ℕ) (paid authorised : Bool) (dirty : ℕ) → Bool
 paysFresh v prior paid authorised dirty = both (not (eqb v 0)) (both (eqb prior 0) (both (not paid) (either authorised (leb 8 dirty))))
 
+-- so for a key of a run
 unfoldable pub freshAt : Env → Keys → (k v : ℕ) → Bool
 freshAt e s k v = paysFresh v (look e s k .value) (has k (s .paid)) (has k (s .may-write)) (length (s .changes))
 
@@ -42,9 +44,11 @@ freshAt e s k v = paysFresh v (look e s k .value) (has k (s .paid)) (has k (s .m
 unfoldable pub storePrice : (fresh dirty : Bool) (count : ℕ) → ℕ
 storePrice fresh dirty count = pick fresh 227000 (pick dirty 0 (pick (leb 8 count) 227000 0))
 
+-- so for a key of a run
 unfoldable pub storePriceAt : Env → Keys → (k v : ℕ) → ℕ
 storePriceAt e s k v = storePrice (freshAt e s k v) (has k (s .changes)) (length (s .changes))
 
+-- the value stands in changes; a key that pays as fresh has paid
 unfoldable pub stored : Env → Keys → (k v : ℕ) → Keys
 stored e s k v = record {
   changes = insert (row k v) (s .changes);
@@ -64,6 +68,7 @@ keyed e base = either (member base (e .keyed-writes)) (member base (e .keyed-rea
 unfoldable pub keyPrice : (written read : Bool) → ℕ
 keyPrice written read = pick (either written read) 0 948
 
+-- so for a key of a run
 unfoldable pub keyPriceAt : Keys → ℕ → ℕ
 keyPriceAt s k = keyPrice (has k (s .may-write)) (has k (s .may-read))
 
@@ -71,9 +76,11 @@ keyPriceAt s k = keyPrice (has k (s .may-write)) (has k (s .may-read))
 unfoldable pub keyBytes : (write written read : Bool) → ℕ
 keyBytes write written read = 32 * (bit (both write (not written)) + bit (not read))
 
+-- so for a key of a run
 unfoldable pub keyBytesAt : Env → Keys → (base k : ℕ) → ℕ
 keyBytesAt e s base k = keyBytes (member base (e .keyed-writes)) (has k (s .may-write)) (has k (s .may-read))
 
+-- readable, and writable if the base is a keyed write
 unfoldable pub authorised : Env → Keys → (base k : ℕ) → Keys
 authorised e s base k = record {
   changes = s .changes;

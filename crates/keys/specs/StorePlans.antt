@@ -8,10 +8,11 @@ use Rattle.tables.specs.Table.{Table}
 use Rattle.keys.specs.Known.{Env, Keys, Rooms}
 use Rattle.keys.specs.Values.{row, look}
 use Rattle.keys.specs.Steps.{fits, freshAt, storePriceAt, stored}
-use Rattle.keys.specs.Bridge.{Bufs, Given, envOf, keysOf, roomsOf, Good, Leaves, holds}
+use Rattle.keys.specs.Lent.{Bufs, Given, envOf, keysOf, roomsOf}
+use Rattle.keys.specs.Sound.{Good, Leaves, holds}
 use Rattle.keys.specs.declared.counts.Counts.{Counts}
 use Rattle.keys.specs.declared.look.Look.{Look}
-use Rattle.keys.specs.declared.look.Lent.{Lent}
+use Rattle.keys.specs.declared.look.TableRows.{TableRows}
 use Rattle.keys.specs.declared.store.StorePlan.{StorePlan}
 
 -- the value before, whether it pays as fresh, the price, and whether every table holds what is stored
@@ -19,11 +20,11 @@ unfoldable pub storePlan : Rooms → Env → Keys → (k v : ℕ) → StorePlan
 storePlan r e s k v = record { look = look e s k; fresh = freshAt e s k v; price = storePriceAt e s k v; room = fits r (stored e s k v) }
 
 -- a plan made over good tables is that plan
-abbrev pub PlansStore : Lent → Given → Counts → Bufs → (k v : ℕ) → StorePlan → Type 0
+abbrev pub PlansStore : TableRows → Given → Counts → Bufs → (k v : ℕ) → StorePlan → Type 0
 PlansStore l g c b k v p = Good c b → p ≡ storePlan (roomsOf b) (envOf l g) (keysOf c b) k v
 
 -- over good tables, and as planned, a store leaves what the rule says
-abbrev pub Stores : Lent → Given → (k v : ℕ) → StorePlan → (c r : Counts) → (b a : Bufs) → Type 0
+abbrev pub Stores : TableRows → Given → (k v : ℕ) → StorePlan → (c r : Counts) → (b a : Bufs) → Type 0
 Stores l g k v p c r b a = Good c b → p ≡ storePlan (roomsOf b) (envOf l g) (keysOf c b) k v → Leaves (stored (envOf l g) (keysOf c b) k v) r a
 
 -- the three tables that a store changes hold what it puts into them

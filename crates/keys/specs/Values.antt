@@ -9,6 +9,7 @@ use Rattle.tables.specs.Rows.{Row, lookup, insert, isSome}
 use Rattle.keys.specs.Known.{Env, Keys}
 use Rattle.keys.specs.declared.look.Look.{Look}
 
+-- a key with a value
 abbrev pub row : ℕ → ℕ → Row
 row k v = record { key = k; value = v }
 
@@ -28,6 +29,7 @@ mayStore ws rs k = either (member k ws) (has k rs)
 abbrev pub mayLoad : (reads writes : List ℕ) (readable : List Row) → ℕ → Bool
 mayLoad ds ws rs k = either (member k ds) (either (member k ws) (has k rs))
 
+-- 0 where there is no value
 unfoldable pub orZero : Option ℕ → ℕ
 orZero none = 0
 orZero (some v) = v
@@ -37,6 +39,7 @@ unfoldable pub fromLoader : Option (List Row) → ℕ → Look
 fromLoader none k = record { value = 0; came = false }
 fromLoader (some ls) k = record { value = orZero (lookup k ls); came = true }
 
+-- a value that stands, else what is looked up next
 unfoldable pub firstOf : Option ℕ → Look → Look
 firstOf none l = l
 firstOf (some v) l = record { value = v; came = false }
@@ -45,6 +48,7 @@ firstOf (some v) l = record { value = v; came = false }
 unfoldable pub lookIn : (changes store fetched : List Row) → Option (List Row) → ℕ → Look
 lookIn cs ss fs ls k = firstOf (lookup k cs) (firstOf (lookup k ss) (firstOf (lookup k fs) (fromLoader ls k)))
 
+-- so for a key of a run
 unfoldable pub look : Env → Keys → ℕ → Look
 look e s k = lookIn (s .changes) (e .store) (s .fetched) (e .loader) k
 

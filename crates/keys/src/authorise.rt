@@ -4,15 +4,14 @@ ghost use mathlib.Core.Bool.{not};
 ghost use mathlib.Core.List.{List};
 ghost use Prim.Native.Nat.{ℕ};
 ghost use lib.ListN.{length};
-ghost use Rattle.words.specs.Bytes.{num};
+ghost use Rattle.words.specs.Bytes.{num, wordsIn};
 ghost use Rattle.words.specs.Choice.{both, either, bit};
 ghost use Rattle.words.specs.Lists.{member};
 ghost use Rattle.tables.specs.Table.{Table};
 ghost use Rattle.keys.specs.Steps.{keyPrice, keyBytes};
-ghost use Rattle.keys.specs.Slots.{slots};
-ghost use Rattle.keys.specs.Bridge.{Given, bufs, given};
+ghost use Rattle.keys.specs.Lent.{Given, bufs, given};
 ghost use Rattle.keys.specs.KeyPlans.{keyFits, KeyReady, PlansKey, Authorises};
-ghost use Rattle.keys.specs.declared.look.Lent.{Lent};
+ghost use Rattle.keys.specs.declared.look.TableRows.{TableRows};
 use crate::counts::Counts;
 
 // What it comes to: whether the base is declared keyed, and for writing; the price, the bytes of new entries, and whether all of it has room.
@@ -26,7 +25,7 @@ pub struct KeyPlan {
 
 // Whether a base is declared keyed: for writing, or among the reads.
 fn is_keyed(write: bool, kreads: &[u8], base: u64) -> bool
-    ensures { λ r. ⌜ r ≡ either write (member base (slots (now (kreads .entry)))) ⌝ }
+    ensures { λ r. ⌜ r ≡ either write (member base (wordsIn (now (kreads .entry)))) ⌝ }
 {
     if write {
         return true;
@@ -89,7 +88,9 @@ pub fn plan_authorise(
     key: &[u8],
 ) -> KeyPlan
     requires { ⌜ Table 32 (c .reads) (now readable) × Table 32 (c .writes) (now writable) × (length (now key) ≡ 32) ⌝ }
-    ensures { λ r. ⌜ ((l : Lent) (rd wr st ld ch fe pd : List ℕ) → PlansKey l (given rd wr (now (kreads .entry)) (now (kwrites .entry)) st ld) c (bufs ch fe (now (readable .entry)) (now (writable .entry)) pd) base (num (now (key .entry))) r) ⌝ }
+    ensures { λ r. ⌜ ((l : TableRows) (rd wr st ld ch fe pd : List ℕ) →
+        PlansKey l (given rd wr (now (kreads .entry)) (now (kwrites .entry)) st ld) c
+        (bufs ch fe (now (readable .entry)) (now (writable .entry)) pd) base (num (now (key .entry))) r) ⌝ }
 {
     let write = crate::slots::listed(kwrites, base);
     let keyed = is_keyed(write, kreads, base);
@@ -116,7 +117,10 @@ pub fn authorise(
     key: &[u8],
 ) -> Counts
     requires { ⌜ KeyReady c plan (num (now key)) (now readable) (now writable) × (length (now key) ≡ 32) ⌝ }
-    ensures { λ r. ⌜ ((l : Lent) (g : Given) (base : ℕ) (ch fe pd : List ℕ) → Authorises l g base (num (now (key .entry))) plan c r (bufs ch fe (now (readable .entry)) (now (writable .entry)) pd) (bufs ch fe (now (readable .exit)) (now (writable .exit)) pd)) ⌝ }
+    ensures { λ r. ⌜ ((l : TableRows) (g : Given) (base : ℕ) (ch fe pd : List ℕ) →
+        Authorises l g base (num (now (key .entry))) plan c r
+        (bufs ch fe (now (readable .entry)) (now (writable .entry)) pd)
+        (bufs ch fe (now (readable .exit)) (now (writable .exit)) pd)) ⌝ }
 {
     let mut d = c;
     d.reads = crate::room::add_if(readable, c.reads, key, true);

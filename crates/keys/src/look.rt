@@ -5,7 +5,8 @@ ghost use Rattle.words.specs.Bytes.{num};
 ghost use Rattle.tables.specs.Rows.{rows};
 ghost use Rattle.tables.specs.Table.{Table};
 ghost use Rattle.keys.specs.Values.{lookIn, fromLoader};
-ghost use Rattle.keys.specs.Bridge.{Loader, loaderOf};
+ghost use Rattle.keys.specs.Lent.{loaderOf};
+ghost use Rattle.keys.specs.Sound.{Loader};
 use tables::rows::Got;
 
 // A value, and whether it came from the loader just now.
@@ -14,8 +15,8 @@ pub struct Look {
     pub came: bool,
 }
 
-// What goes with the lent tables: the store's rows, whether there is a loader, and its rows.
-pub struct Lent {
+// How many rows stand in the lent tables: the store, and the loader if there is one.
+pub struct TableRows {
     pub store: usize,
     pub present: bool,
     pub loader: usize,
@@ -47,7 +48,7 @@ fn fetch(present: bool, loader: &[u8], n: usize, key: &[u8]) -> Look
 
 // The value at a key: stored, else the store's, else fetched before, else the loader's, else 0.
 pub fn look_up(
-    lent: Lent,
+    lent: TableRows,
     store: &[u8],
     loader: &[u8],
     changes: &[u8],
@@ -56,8 +57,10 @@ pub fn look_up(
     nf: usize,
     key: &[u8],
 ) -> Look
-    requires { ⌜ Table 40 nc (now changes) × Table 40 (lent .store) (now store) × Table 40 nf (now fetched) × Loader (lent .present) (lent .loader) (now loader) × (length (now key) ≡ 32) ⌝ }
-    ensures { λ r. ⌜ r ≡ lookIn (rows 40 nc (now (changes .entry))) (rows 40 (lent .store) (now (store .entry))) (rows 40 nf (now (fetched .entry))) (loaderOf (lent .present) (rows 40 (lent .loader) (now (loader .entry)))) (num (now (key .entry))) ⌝ }
+    requires { ⌜ Table 40 nc (now changes) × Table 40 (lent .store) (now store) × Table 40 nf (now fetched)
+        × Loader (lent .present) (lent .loader) (now loader) × (length (now key) ≡ 32) ⌝ }
+    ensures { λ r. ⌜ r ≡ lookIn (rows 40 nc (now (changes .entry))) (rows 40 (lent .store) (now (store .entry))) (rows 40 nf (now (fetched .entry)))
+        (loaderOf (lent .present) (rows 40 (lent .loader) (now (loader .entry)))) (num (now (key .entry))) ⌝ }
 {
     let a = tables::rows::get(changes, nc, key);
     if let Got::Value(v) = a {

@@ -6,7 +6,7 @@ ghost use lib.ListN.{length};
 ghost use Rattle.words.specs.Bytes.{num};
 ghost use Rattle.tables.specs.Table.{Table};
 ghost use Rattle.keys.specs.Values.{row};
-ghost use Rattle.keys.specs.Bridge.{Put, holds, countOr};
+ghost use Rattle.keys.specs.Sound.{Put, holds, countOr};
 use tables::store::Stored;
 
 // Whether a key has room in its table, if it is to go in.

@@ -8,12 +8,13 @@ ghost use Rattle.tables.specs.Rows.{rows};
 ghost use Rattle.tables.specs.Table.{Table};
 ghost use Rattle.keys.specs.Values.{has};
 ghost use Rattle.keys.specs.Steps.{paysFresh, storePrice};
-ghost use Rattle.keys.specs.Bridge.{Given, bufs, given, Loader};
+ghost use Rattle.keys.specs.Lent.{Given, bufs, given};
+ghost use Rattle.keys.specs.Sound.{Loader};
 ghost use Rattle.keys.specs.StorePlans.{storeFits, StoreReady, PlansStore, Stores};
-ghost use Rattle.keys.specs.declared.look.Lent.{Lent};
+ghost use Rattle.keys.specs.declared.look.TableRows.{TableRows};
 use crate::counts::Counts;
-use crate::look::Lent;
 use crate::look::Look;
+use crate::look::TableRows;
 
 // What a store comes to: the value before, whether it pays as fresh, its price beyond the base price, and whether all of it has room.
 pub struct StorePlan {
@@ -26,7 +27,9 @@ pub struct StorePlan {
 // Whether a store of v over prior pays as fresh. The tables are searched only where the values leave it open.
 fn pays_fresh(c: Counts, writable: &[u8], paid: &[u8], key: &[u8], v: u64, prior: u64) -> bool
     requires { ⌜ Table 32 (c .writes) (now writable) × Table 32 (c .paid) (now paid) × (length (now key) ≡ 32) ⌝ }
-    ensures { λ r. ⌜ r ≡ paysFresh v prior (has (num (now (key .entry))) (rows 32 (c .paid) (now (paid .entry)))) (has (num (now (key .entry))) (rows 32 (c .writes) (now (writable .entry)))) (c .changes) ⌝ }
+    ensures { λ r. ⌜ r ≡ paysFresh v prior
+        (has (num (now (key .entry))) (rows 32 (c .paid) (now (paid .entry))))
+        (has (num (now (key .entry))) (rows 32 (c .writes) (now (writable .entry)))) (c .changes) ⌝ }
 {
     if v == 0 {
         return false;
@@ -84,7 +87,7 @@ fn store_room(
 
 // What a store of v at a key comes to. Changes nothing.
 pub fn plan_store(
-    lent: Lent,
+    lent: TableRows,
     c: Counts,
     store: &[u8],
     loader: &[u8],
@@ -95,8 +98,13 @@ pub fn plan_store(
     key: &[u8],
     v: u64,
 ) -> StorePlan
-    requires { ⌜ Table 40 (lent .store) (now store) × Loader (lent .present) (lent .loader) (now loader) × Table 40 (c .changes) (now changes) × Table 40 (c .fetched) (now fetched) × Table 32 (c .writes) (now writable) × Table 32 (c .paid) (now paid) × (length (now key) ≡ 32) ⌝ }
-    ensures { λ r. ⌜ ((rd wr kr kw mr : List ℕ) → PlansStore lent (given rd wr kr kw (now (store .entry)) (now (loader .entry))) c (bufs (now (changes .entry)) (now (fetched .entry)) mr (now (writable .entry)) (now (paid .entry))) (num (now (key .entry))) v r) ⌝ }
+    requires { ⌜ Table 40 (lent .store) (now store) × Loader (lent .present) (lent .loader) (now loader)
+        × Table 40 (c .changes) (now changes) × Table 40 (c .fetched) (now fetched)
+        × Table 32 (c .writes) (now writable) × Table 32 (c .paid) (now paid) × (length (now key) ≡ 32) ⌝ }
+    ensures { λ r. ⌜ ((rd wr kr kw mr : List ℕ) →
+        PlansStore lent (given rd wr kr kw (now (store .entry)) (now (loader .entry))) c
+        (bufs (now (changes .entry)) (now (fetched .entry)) mr (now (writable .entry)) (now (paid .entry)))
+        (num (now (key .entry))) v r) ⌝ }
 {
     let l = crate::look::look_up(
         lent,
@@ -130,7 +138,10 @@ pub fn store(
     v: u64,
 ) -> Counts
     requires { ⌜ StoreReady c plan (num (now key)) v (now changes) (now fetched) (now paid) × (length (now key) ≡ 32) ⌝ }
-    ensures { λ r. ⌜ ((l : Lent) (g : Given) (mr mw : List ℕ) → Stores l g (num (now (key .entry))) v plan c r (bufs (now (changes .entry)) (now (fetched .entry)) mr mw (now (paid .entry))) (bufs (now (changes .exit)) (now (fetched .exit)) mr mw (now (paid .exit)))) ⌝ }
+    ensures { λ r. ⌜ ((l : TableRows) (g : Given) (mr mw : List ℕ) →
+        Stores l g (num (now (key .entry))) v plan c r
+        (bufs (now (changes .entry)) (now (fetched .entry)) mr mw (now (paid .entry)))
+        (bufs (now (changes .exit)) (now (fetched .exit)) mr mw (now (paid .exit)))) ⌝ }
 {
     let l = plan.look;
     let mut d = c;

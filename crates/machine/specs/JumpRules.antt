@@ -5,15 +5,15 @@ use Rattle.words.specs.Choice.{pick}
 use Rattle.words.specs.Lists.{member}
 use Rattle.state.specs.Regs.{reg}
 use Rattle.machine.specs.Machine.{Env, Machine, pcTo}
-use Rattle.machine.specs.Steps.{Step, next, need}
+use Rattle.machine.specs.Rules.{Rule, next, need}
 use Rattle.machine.specs.MoveRules.{pushing, popping}
 use Rattle.machine.specs.declared.action.Jump.{Jump}
 use Rattle.machine.specs.declared.action.Jump.the-variants.{Jmp, Jz, Jnz, Call, Ret}
 
-abbrev pub jumping : Env → ℕ → Machine → Step
+abbrev pub jumping : Env → ℕ → Machine → Rule
 jumping e target m = need (member target (e .starts)) 7 (next (pcTo m target))
 
-unfoldable pub jumpOf : Env → Jump → Machine → Step
+unfoldable pub jumpOf : Env → Jump → Machine → Rule
 jumpOf e (Jmp target) m = jumping e target m
 jumpOf e (Jz a target) m = pick (eqb (reg (m .regs) a) 0) (jumping e target m) (next m)
 jumpOf e (Jnz a target) m = pick (eqb (reg (m .regs) a) 0) (next m) (jumping e target m)

@@ -1,5 +1,7 @@
+-- definitions
 pub mod Machine
 pub mod Steps
+pub mod Rules
 pub mod Actions
 pub mod MoveRules
 pub mod JumpRules
@@ -7,13 +9,19 @@ pub mod StorageRules
 pub mod PostRules
 pub mod CryptoRules
 pub mod Turns
-pub mod Bridge
-pub mod Turned
+pub mod Lent
+pub mod Trace
+pub mod Grants
+-- what is sound, and what the code claims of a rule
+pub mod Sound
+pub mod RunParts
+pub mod Does
+-- laws
+pub mod RuleLaws
+pub mod SoundLaws
+pub mod StackLaws
 pub mod ToldLaws
 pub mod TurnLaws
-pub mod SoundLaws
-pub mod Outcomes
-pub mod Kept
-pub mod Costs
-pub mod Trace
-pub mod Runs
+pub mod KeysLaws
+pub mod CostLaws
+pub mod TraceLaws

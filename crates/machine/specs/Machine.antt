@@ -1,22 +1,22 @@
 -- The machine of document 01 and what a run is given (document 01, The run and Lent input).
 use mathlib.Core.List.{List}
 use Prim.Native.Nat.{ℕ}
-use Rattle.tables.specs.declared.reply.Reply.{Reply}
+use Rattle.replies.specs.declared.reply.Reply.{Reply}
 use Rattle.keys.specs.Known.{Keys, Rooms}
 use Rattle.keys.specs.Known as known
 use Rattle.effects.specs.Log.{Effect}
 use Rattle.state.specs.declared.regs.RegFile.{RegFile}
 use Rattle.state.specs.Regs.{setReg}
+use Rattle.machine.specs.declared.host.Host.{Host}
 
--- what never changes in a run: code, constants, instruction starts, slots and starting values, the limit, both SIGNED_BYTES totals, the bytes lent
+-- what never changes in a run: code, constants, instruction starts, slots and starting values, the limit, the host's numbers, the bytes lent
 pub record Env : Type 0 where
   pub code : List ℕ
   pub consts : List ℕ
   pub starts : List ℕ
   pub keys : known.Env
   pub limit : ℕ
-  pub ml-signed : ℕ
-  pub slh-signed : ℕ
+  pub host : Host
   pub rooms : Rooms
   pub log-room : ℕ
 
@@ -74,3 +74,10 @@ usedTo m u = machine (m .regs) (m .memory) (m .stack) (m .pc) (m .keys) (m .effe
 
 abbrev pub fetchesTo : Machine → ℕ → Machine
 fetchesTo m n = machine (m .regs) (m .memory) (m .stack) (m .pc) (m .keys) (m .effects) (m .posted) (m .keyed) (m .replies) (m .used) n
+
+abbrev pub metered : Machine → (used fetches : ℕ) → Machine
+metered m u n = machine (m .regs) (m .memory) (m .stack) (m .pc) (m .keys) (m .effects) (m .posted) (m .keyed) (m .replies) u n
+
+-- what rules see: a machine before anything is used or fetched
+abbrev pub bare : Machine → Machine
+bare m = metered m 0 0

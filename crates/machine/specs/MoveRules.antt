@@ -7,23 +7,23 @@ use Rattle.words.specs.Bytes.{num}
 use Rattle.state.specs.Regs.{reg}
 use Rattle.state.specs.Memory.{inside, storedAt}
 use Rattle.machine.specs.Machine.{Env, Machine, regTo, memoryTo, stackTo}
-use Rattle.machine.specs.Steps.{Step, next, fault, need}
+use Rattle.machine.specs.Rules.{Rule, next, need, stop}
 use Rattle.machine.specs.declared.action.Move.{Move}
 use Rattle.machine.specs.declared.action.Move.the-variants.{Ldc, Push, Pop, MLoad, MStore}
 
 -- a word onto a stack of at most 1024 (4)
-abbrev pub pushing : Machine → ℕ → (Machine → Step) → Step
+abbrev pub pushing : Machine → ℕ → (Machine → Rule) → Rule
 pushing m v then = need (ltb (length (m .stack)) 1024) 4 (then (stackTo m (v ∷ m .stack)))
 
 -- the last word off the stack (5)
-abbrev pub poppingFrom : List ℕ → Machine → (ℕ → Machine → Step) → Step
-poppingFrom [] m then = fault 5 0
+abbrev pub poppingFrom : List ℕ → Machine → (ℕ → Machine → Rule) → Rule
+poppingFrom [] m then = stop 5 m
 poppingFrom (v ∷ st) m then = then v (stackTo m st)
 
-abbrev pub popping : Machine → (ℕ → Machine → Step) → Step
+abbrev pub popping : Machine → (ℕ → Machine → Rule) → Rule
 popping m then = poppingFrom (m .stack) m then
 
-unfoldable pub moveOf : Env → Move → Machine → Step
+unfoldable pub moveOf : Env → Move → Machine → Rule
 moveOf e (Ldc d k) m = need (ltb k (length (e .consts))) 8 (next (regTo m d (getD (e .consts) k 0)))
 moveOf e (Push a) m = pushing m (reg (m .regs) a) next
 moveOf e (Pop d) m = popping m (λ v p. next (regTo p d v))

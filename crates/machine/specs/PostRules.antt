@@ -11,7 +11,7 @@ use Rattle.effects.specs.Log.{Effect, logOf}
 use Rattle.effects.specs.Targets.{Target, targetOf, knownIn, anyTarget}
 use Rattle.effects.specs.Counts.{events}
 use Rattle.machine.specs.Machine.{Env, Machine, effectsTo, postedTo}
-use Rattle.machine.specs.Steps.{Step, next, need, pay}
+use Rattle.machine.specs.Rules.{Rule, next, need, pay}
 use Rattle.machine.specs.declared.action.Post.{Post}
 use Rattle.machine.specs.declared.action.Post.the-variants.{Send, Emit}
 
@@ -31,29 +31,35 @@ targetPrice (some t) es = pick (knownIn t es) 0 (pick (anyTarget es) 227000 0)
 unfoldable pub eventPrice : List Effect → ℕ
 eventPrice es = pick (leb 4 (events es)) 6250 0
 
--- 2 a byte, then n bytes and 32 added to a total of at most 1048576 (11)
-abbrev pub counting : Env → ℕ → Machine → (Machine → Step) → Step
-counting e n m then = pay e (2 * n) m (λ p. need (leb (p .posted + n + 32) 1048576) 11 (then (postedTo p (p .posted + n + 32))))
+-- the total with an effect's bytes and 32, of at most 1048576 (11)
+abbrev pub totalWith : Effect → Machine → ℕ
+totalWith x m = m .posted + length (x .bytes) + 32
 
 -- into the log, if its record has room (48)
-abbrev pub posting : Env → Effect → Machine → Step
+abbrev pub posting : Env → Effect → Machine → Rule
 posting e x m = need (leb (length (logOf (x ∷ m .effects))) (e .log-room)) 48 (next (effectsTo m (x ∷ m .effects)))
 
 -- the bytes of a region
 abbrev pub region : Machine → (at n : ℕ) → List ℕ
 region m at n = take n (drop at (m .memory))
 
-unfoldable pub sending : Env → Effect → Machine → Step
-sending e x m = counting e (length (x .bytes)) m (λ p. pay e (targetPrice (targetOf x) (m .effects)) p (posting e x))
+unfoldable pub sending : Env → Effect → Machine → Rule
+sending e x m =
+    pay (2 * length (x .bytes))
+    (need (leb (totalWith x m) 1048576) 11
+    (pay (targetPrice (targetOf x) (m .effects))
+    (posting e x (postedTo m (totalWith x m)))))
 
-unfoldable pub emitting : Env → Effect → Machine → Step
+unfoldable pub emitting : Env → Effect → Machine → Rule
 emitting e x m =
-    counting e (length (x .bytes)) m (λ p.
-    pay e (98 * length (x .bytes)) p (λ q.
-    pay e (targetPrice (targetOf x) (m .effects)) q (λ r.
-    pay e (eventPrice (m .effects)) r (posting e x))))
+    pay (2 * length (x .bytes))
+    (need (leb (totalWith x m) 1048576) 11
+    (pay (98 * length (x .bytes))
+    (pay (targetPrice (targetOf x) (m .effects))
+    (pay (eventPrice (m .effects))
+    (posting e x (postedTo m (totalWith x m)))))))
 
-unfoldable pub postOf : Env → Post → Machine → Step
+unfoldable pub postOf : Env → Post → Machine → Rule
 postOf e (Send a b c) m =
     need (inside (length (m .memory)) (reg (m .regs) a) (reg (m .regs) b)) 6
     (sending e (transfer (reg (m .regs) c) (region m (reg (m .regs) a) (reg (m .regs) b))) m)

@@ -7,7 +7,7 @@ use Rattle.state.specs.Memory.{inside}
 use Rattle.keys.specs.Values.{mayLoad, mayStore, look}
 use Rattle.keys.specs.Steps.{fits, loaded, stored, storePriceAt}
 use Rattle.machine.specs.Machine.{Env, Machine, regTo, keysTo}
-use Rattle.machine.specs.Steps.{Step, next, need, pay}
+use Rattle.machine.specs.Rules.{Rule, next, need, pay}
 use Rattle.machine.specs.declared.action.Access.{Access}
 use Rattle.machine.specs.declared.action.Access.the-variants.{SLoad, SStore}
 
@@ -15,19 +15,19 @@ use Rattle.machine.specs.declared.action.Access.the-variants.{SLoad, SSt
 abbrev pub keyAt : Machine → ℕ → ℕ
 keyAt m at = num (take 32 (drop at (m .memory)))
 
-unfoldable pub loading : Env → (d k : ℕ) → Machine → Step
+unfoldable pub loading : Env → (d k : ℕ) → Machine → Rule
 loading e d k m =
     need (mayLoad (e .keys .reads) (e .keys .writes) (m .keys .may-read) k) 12
     (need (fits (e .rooms) (loaded (e .keys) (m .keys) k)) 48
     (next (regTo (keysTo m (loaded (e .keys) (m .keys) k)) d (look (e .keys) (m .keys) k .value))))
 
-unfoldable pub storing : Env → (k v : ℕ) → Machine → Step
+unfoldable pub storing : Env → (k v : ℕ) → Machine → Rule
 storing e k v m =
     need (mayStore (e .keys .writes) (m .keys .may-write) k) 12
-    (pay e (storePriceAt (e .keys) (m .keys) k v) m (λ p.
-    need (fits (e .rooms) (stored (e .keys) (m .keys) k v)) 48
-    (next (keysTo p (stored (e .keys) (m .keys) k v)))))
+    (pay (storePriceAt (e .keys) (m .keys) k v)
+    (need (fits (e .rooms) (stored (e .keys) (m .keys) k v)) 48
+    (next (keysTo m (stored (e .keys) (m .keys) k v)))))
 
-unfoldable pub accessOf : Env → Access → Machine → Step
+unfoldable pub accessOf : Env → Access → Machine → Rule
 accessOf e (SLoad d a) m = need (inside (length (m .memory)) (reg (m .regs) a) 32) 6 (loading e d (keyAt m (reg (m .regs) a)) m)
 accessOf e (SStore a b) m = need (inside (length (m .memory)) (reg (m .regs) a) 32) 6 (storing e (keyAt m (reg (m .regs) a)) (reg (m .regs) b) m)

@@ -10,7 +10,8 @@ use Rattle.meter.specs.declared.Meter.{Meter}
 use Rattle.meter.specs.declared.Charged.{Charged}
 use Rattle.meter.specs.declared.Charged.the-variants as charged
 use Rattle.machine.specs.Actions.{actionOf}
-use Rattle.machine.specs.Turned.{meterTo, paidBy}
+use Rattle.machine.specs.RunParts.{withMeter, withUsed}
+use Rattle.machine.specs.Does.{paidBy}
 use Rattle.machine.specs.declared.action.Action.{Action}
 use Rattle.machine.specs.declared.run.Run.{Run}
 use Rattle.machine.specs.declared.run.Paid.{Paid}
@@ -21,14 +22,13 @@ action-told i j x e h = sym (ap actionOf e ∙ h)
 
 -- what a charge of the run's meter makes of the run
 abbrev afterCharge : Run → Charged → Paid
-afterCharge r (charged.Paid m) =
-    paid.Done (record { pc = r .pc; depth = r .depth; counts = r .counts; log = r .log; events = r .events; posted = r .posted; keyed = r .keyed; replies = r .replies; meter = m; fetches = r .fetches })
+afterCharge r (charged.Paid m) = paid.Done (withMeter r m)
 afterCharge r charged.OutOfMeter = paid.OutOfMeter
 
 after-charge : (r : Run) (p : ℕ) → afterCharge r (chargeOf (r .meter) p) ≡ paidBy r p
 after-charge r p = go (leb (r .meter .used + p) (r .meter .limit))
   where
-    go : (t : Bool) → afterCharge r (pick t (charged.Paid (record { used = r .meter .used + p; limit = r .meter .limit })) charged.OutOfMeter) ≡ pick t (paid.Done (meterTo r (r .meter .used + p))) paid.OutOfMeter
+    go : (t : Bool) → afterCharge r (pick t (charged.Paid (record { used = r .meter .used + p; limit = r .meter .limit })) charged.OutOfMeter) ≡ pick t (paid.Done (withUsed r (r .meter .used + p))) paid.OutOfMeter
     go true = refl
     go false = refl
 

@@ -28,7 +28,7 @@ unfoldable pub stepsFrom : Decoded → Machine → Step → (Machine → List To
 stepsFrom (decoded.Refused x) m s on = []
 stepsFrom (decoded.Done i n) m (next p) on = took m i n ∷ on p
 stepsFrom (decoded.Done i n) m (halt p) on = took m i n ∷ []
-stepsFrom (decoded.Done i n) m (fault k a) on = []
+stepsFrom (decoded.Done i n) m (fault x) on = []
 
 -- the finished steps of a run of at most so many turns
 unfoldable pub stepsOf : (turns : ℕ) → Env → Machine → List Took

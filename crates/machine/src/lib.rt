@@ -1,4 +1,5 @@
 // A run's state and what one turn does to it.
 pub mod action;
+pub mod host;
 pub mod run;
 pub mod turn;

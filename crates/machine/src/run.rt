@@ -1,6 +1,6 @@
 // What a run keeps by value; its registers stand apart, and its tables and log in lent bytes.
 ghost use mathlib.Core.Path.{_≡_};
-ghost use Rattle.machine.specs.Turned.{paidBy};
+ghost use Rattle.machine.specs.Does.{paidBy};
 use keys::counts::Counts;
 use meter::Charged;
 use meter::Meter;

@@ -1,6 +1,6 @@
 // What a turn answers.
 ghost use mathlib.Core.Path.{_≡_};
-ghost use Rattle.machine.specs.Turned.{goes, sets, stops, halts};
+ghost use Rattle.machine.specs.Does.{goes, sets, stops, halts};
 use crate::run::Run;
 
 // Two words for two registers, the first put first; a register past the last is none.

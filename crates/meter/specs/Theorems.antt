@@ -9,19 +9,14 @@ use borrow.Author.Tests.{leb-true, leb-false}
 use Rattle.words.specs.Choice.{pick}
 use Rattle.meter.specs.declared.Meter.{Meter}
 use Rattle.meter.specs.declared.Charged.the-variants.{Paid, OutOfMeter}
-use Rattle.meter.specs.Meter.{chargeOf}
+use Rattle.meter.specs.Meter.{chargeOf, Within}
 use Rattle.meter.specs.Laws.{charge-out}
 
 -- a price that is capped at the largest word decides as the plain one
 pub capped-decides : (used limit p : ℕ) → 1 ≤ used → limit < 2 ^ 64 → (used + min p (2 ^ 64 - 1) ≤ limit) ↔ (used + p ≤ limit)
 capped-decides used limit p u l = ((λ h. omega arith), (λ h. omega arith))
 
--- after a payment the limit is the same, and what is used is the sum and within the limit
-pub record Within (m n : Meter) (p : ℕ) : Type 0 where
-  pub used : n .used ≡ m .used + p
-  pub limit : n .limit ≡ m .limit
-  pub within : n .used ≤ n .limit
-
+-- a payment stays within the limit
 pub paid-within : (m n : Meter) (p : ℕ) → chargeOf m p ≡ Paid n → Within m n p
 paid-within m n p = go (leb (m .used + p) (m .limit)) refl
   where
@@ -35,6 +30,7 @@ paid-within m n p = go (leb (m .used + p) (m .limit)) refl
 pub out-exactly : (m : Meter) (p : ℕ) → (chargeOf m p ≡ OutOfMeter) ↔ (m .limit < m .used + p)
 out-exactly m p = (go (leb (m .used + p) (m .limit)) refl, λ h. sym (charge-out m p h))
   where
-    go : (t : Bool) → leb (m .used + p) (m .limit) ≡ t → pick t (Paid (record { used = m .used + p; limit = m .limit })) OutOfMeter ≡ OutOfMeter → m .limit < m .used + p
+    go : (t : Bool) → leb (m .used + p) (m .limit) ≡ t → pick t (Paid (record { used = m .used + p; limit = m .limit })) OutOfMeter ≡ OutOfMeter
+        → m .limit < m .used + p
     go true e h = absurd (let z : _≡_ {A = ℕ} 0 1 = cc in omega arith)
     go false e h = leb-false (m .used + p) (m .limit) e

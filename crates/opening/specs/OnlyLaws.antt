@@ -18,8 +18,8 @@ use Rattle.container.specs.declared.offsets.Found.{Found}
 use Rattle.container.specs.declared.offsets.Found.the-variants as found
 use Rattle.opening.specs.Opening.{matching}
 use Rattle.opening.specs.Parts.{OnlyTold}
-use Rattle.opening.specs.declared.only.Sought.{Sought}
-use Rattle.opening.specs.declared.only.Sought.the-variants.{At, Missing, Twice}
+use Rattle.opening.specs.declared.unique_entry.Sought.{Sought}
+use Rattle.opening.specs.declared.unique_entry.Sought.the-variants.{At, Missing, Twice}
 
 -- what a search for the first entry with a selector tells of those that have it
 pub record Some (es : List Entry) : Type 0 where

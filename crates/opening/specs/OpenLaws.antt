@@ -11,19 +11,18 @@ use borrow.Author.Tests.{le-leb, lt-leb}
 use Rattle.words.specs.Bytes.{Bytes}
 use Rattle.words.specs.Choice.{pick, both}
 use Rattle.words.specs.Lists.{member}
+use Rattle.words.specs.Refusals.{refusal}
+use Rattle.words.specs.declared.refusal.Refusal.{Refusal}
 use Rattle.meter.specs.Prices.{dispatchPrice}
-use Rattle.container.specs.Container.{Entry, Container}
+use Rattle.container.specs.Container.{Entry, Container, slotCount}
 use Rattle.container.specs.Reader.{read, entries, refused, readOf, layoutOf}
-use Rattle.container.specs.Entries.{placed}
-use Rattle.container.specs.ReadTold.{ReadTold}
-use Rattle.container.specs.VerifyLaws.{laid, code-within}
-use Rattle.container.specs.Verify.{slotCount}
-use Rattle.container.specs.Checks.{slotsOf}
+use Rattle.container.specs.Entries.{placed, slotsOf}
+use Rattle.container.specs.ReadTold.{ReadTold, laid, code-within}
 use Rattle.container.specs.Answers.{readError}
 use Rattle.container.specs.declared.reader.Layout.{Layout}
 use Rattle.container.specs.declared.reader.ReadError.{ReadError}
 use Rattle.container.specs.declared.entries.EntryLayout.{EntryLayout}
-use Rattle.keys.specs.declared.look.Lent as look
+use Rattle.keys.specs.declared.look.TableRows.{TableRows}
 use Rattle.opening.specs.Opening.{Input, Lent, start, must, within, startsOf, envOf, machineFor, openingRead, openingIn, openingOne, openingAt}
 use Rattle.opening.specs.Opened.{inputOf, ToldOf, Opens}
 use Rattle.opening.specs.Parts.{Checks, OnlyTold, Enters, Searched, Beginning, Begins}
@@ -34,52 +33,52 @@ use Rattle.opening.specs.declared.open.Opening.{Opening}
 use Rattle.opening.specs.declared.open.Opening.the-variants.{Done, Refused}
 use Rattle.opening.specs.declared.lent.Tables.{Tables}
 use Rattle.opening.specs.declared.lent.Tables.the-variants as tables
-use Rattle.opening.specs.declared.only.Sought.{Sought}
-use Rattle.opening.specs.declared.only.Sought.the-variants.{At, Missing, Twice}
+use Rattle.opening.specs.declared.unique_entry.Sought.{Sought}
+use Rattle.opening.specs.declared.unique_entry.Sought.the-variants.{At, Missing, Twice}
 
 -- ---- the container and the tables
 
 module _ (c : Call) (s st ld rp : List ℕ) where
-  pub unreadable : (e : ReadError) → readOf s ≡ refused e → (n : ℕ) → n ≡ readError e .number → Opens c s st ld rp (Refused n)
+  pub unreadable : (e : ReadError) → readOf s ≡ refused e → (n : Refusal) → n ≡ readError e → Opens c s st ld rp (Refused n)
   unfolding openingRead
-  unreadable e h n q = λ pre ml slh b. rw (h, q)
+  unreadable e h n q = λ pre b. rw (h, q)
 
   module _ (l : Layout) (r : ReadTold s l) where
-    opened : (pre : List ℕ) (ml slh : ℕ) (b : Lent) → openingRead (inputOf c s st ld rp pre ml slh) b (readOf s) ≡ openingIn (inputOf c s st ld rp pre ml slh) b (r .found)
+    opened : (pre : List ℕ) (b : Lent) → openingRead (inputOf c s st ld rp pre) b (readOf s) ≡ openingIn (inputOf c s st ld rp pre) b (r .found)
     unfolding openingRead
-    opened pre ml slh b = rw (r .is)
+    opened pre b = rw (r .is)
 
     module _ (t : Tables) (k : Checks c st ld rp t) where
-      pub bad-tables : (n : ℕ) → t ≡ tables.Bad n → Opens c s st ld rp (Refused n)
+      pub bad-tables : (n : ℕ) → t ≡ tables.Bad n → Opens c s st ld rp (Refused (refusal n 0))
       unfolding openingIn
-      bad-tables n e = λ pre ml slh b. let h = subst (Checks c st ld rp) e k s pre ml slh in opened pre ml slh b ∙ rw (h .0, h .1)
+      bad-tables n e = λ pre b. let h = subst (Checks c st ld rp) e k s pre in opened pre b ∙ rw (h .0, h .1)
 
-      pub entered : (n : look.Lent) → t ≡ tables.Good n → Bytes s → (o : Opening) →
+      pub entered : (n : TableRows) → t ≡ tables.Good n → Bytes s → (o : Opening) →
           Enters c l n s (take (l .«code_at» + l .code - l .«code_at») (drop (l .«code_at») s)) o → Opens c s st ld rp o
-      entered n e all o q = λ pre ml slh b. q st ld rp pre ml slh b (record {
+      entered n e all o q = λ pre b. q st ld rp pre b (record {
         read = r;
         bytes = all;
         code = laid s l r .code;
-        tables = subst (Checks c st ld rp) e k s pre ml slh;
-        is = opened pre ml slh b;
+        tables = subst (Checks c st ld rp) e k s pre;
+        is = opened pre b;
       })
 
 -- ---- the selector, the sizes, the entries
 
-module _ (c : Call) (l : Layout) (n : look.Lent) (s code : List ℕ) where
-  pub genesis : both (c .entry) (eqb (c .selector) (c .genesis)) ≡ true → Enters c l n s code (Refused 9)
+module _ (c : Call) (l : Layout) (n : TableRows) (s code : List ℕ) where
+  pub genesis : both (c .entry) (eqb (c .selector) (c .host .genesis)) ≡ true → Enters c l n s code (Refused (refusal 9 0))
   unfolding openingIn
-  genesis h = λ st ld rp pre ml slh b i. i .is ∙ rw (i .tables .number, h)
+  genesis h = λ st ld rp pre b i. i .is ∙ rw (i .tables .number, h)
 
-  module _ (g : both (c .entry) (eqb (c .selector) (c .genesis)) ≡ false) (small : Bool) (q : (d : Container) → l ≡ layoutOf d → small ≡ within d) where
-    pub too-large : small ≡ false → Enters c l n s code (Refused 14)
+  module _ (g : both (c .entry) (eqb (c .selector) (c .host .genesis)) ≡ false) (small : Bool) (q : (d : Container) → l ≡ layoutOf d → small ≡ within d) where
+    pub too-large : small ≡ false → Enters c l n s code (Refused (refusal 14 0))
     unfolding openingIn
-    too-large h = λ st ld rp pre ml slh b i. i .is ∙ rw (i .tables .number, g, ← q (i .read .found) (i .read .layout), h)
+    too-large h = λ st ld rp pre b i. i .is ∙ rw (i .tables .number, g, ← q (i .read .found) (i .read .layout), h)
 
     pub searched : small ≡ true → (o : Sought) →
         ((es : List Entry) (t : List ℕ) → entries (l .entries) (drop (l .«entries_at») s) ≡ read es t → OnlyTold s (c .selector) es o) → Searched c l n s code o
     unfolding openingIn
-    searched h o k = λ st ld rp pre ml slh b i. record {
+    searched h o k = λ st ld rp pre b i. record {
       entering = i;
       small = code-small l (i .read .found) (i .read .layout) (sym (q (i .read .found) (i .read .layout)) ∙ h);
       is = i .is ∙ rw (i .tables .number, g, ← q (i .read .found) (i .read .layout), h);
@@ -87,23 +86,23 @@ module _ (c : Call) (l : Layout) (n : look.Lent) (s code : List ℕ) where
     }
 
   module _ (o : Sought) (k : Searched c l n s code o) where
-    pub missing : o ≡ Missing → Enters c l n s code (Refused 9)
+    pub missing : o ≡ Missing → Enters c l n s code (Refused (refusal 9 0))
     unfolding openingOne
-    missing e = λ st ld rp pre ml slh b i. let x = subst (Searched c l n s code) e k st ld rp pre ml slh b i in x .is ∙ rw (x .told)
+    missing e = λ st ld rp pre b i. let x = subst (Searched c l n s code) e k st ld rp pre b i in x .is ∙ rw (x .told)
 
-    pub twice : o ≡ Twice → Enters c l n s code (Refused 14)
+    pub twice : o ≡ Twice → Enters c l n s code (Refused (refusal 14 0))
     unfolding openingOne
-    twice e = λ st ld rp pre ml slh b i. let x = subst (Searched c l n s code) e k st ld rp pre ml slh b i in x .is ∙ rw (x .told .is)
+    twice e = λ st ld rp pre b i. let x = subst (Searched c l n s code) e k st ld rp pre b i in x .is ∙ rw (x .told .is)
 
     pub begins : (e : EntryLayout) → o ≡ At e → (r : Opening) → Begins c l n e code r → Enters c l n s code r
     unfolding openingOne
-    begins e h r a = λ st ld rp pre ml slh b i.
-        let x = subst (Searched c l n s code) h k st ld rp pre ml slh b i in
-        a s st ld rp pre ml slh b (record { entering = x .entering; small = x .small; at = x .told .at; entry = x .told .entry; is = x .is ∙ rw (x .told .is) })
+    begins e h r a = λ st ld rp pre b i.
+        let x = subst (Searched c l n s code) h k st ld rp pre b i in
+        a s st ld rp pre b (record { entering = x .entering; small = x .small; at = x .told .at; entry = x .told .entry; is = x .is ∙ rw (x .told .is) })
 
 -- ---- the entry
 
-module _ (x : Input) (b : Lent) (l : Layout) (n : look.Lent) (e : EntryLayout) (part : List ℕ) (i : Beginning x b l n e part) where
+module _ (x : Input) (b : Lent) (l : Layout) (n : TableRows) (e : EntryLayout) (part : List ℕ) (i : Beginning x b l n e part) where
   slots : slotsOf e ≡ slotCount (i .entry .found)
   unfolding slotCount placed
   slots = rw (i .entry .layout)
@@ -156,16 +155,16 @@ module _ (x : Input) (b : Lent) (l : Layout) (n : look.Lent) (e : EntryLayout) (
         afford = rw (price used p) at a;
       }
 
-module _ (c : Call) (l : Layout) (n : look.Lent) (e : EntryLayout) (code : List ℕ) where
-  pub many-slots : leb (slotsOf e) 4096 ≡ false → Begins c l n e code (Refused 14)
-  many-slots h = λ s st ld rp pre ml slh b i. tested _ b l n e code i _ refl ∙ rw h
+module _ (c : Call) (l : Layout) (n : TableRows) (e : EntryLayout) (code : List ℕ) where
+  pub many-slots : leb (slotsOf e) 4096 ≡ false → Begins c l n e code (Refused (refusal 14 0))
+  many-slots h = λ s st ld rp pre b i. tested _ b l n e code i _ refl ∙ rw h
 
   module _ (f : leb (slotsOf e) 4096 ≡ true) (used : ℕ) (p : used ≡ min (dispatchPrice (l .code)) (2 ^ 64 - 1)) where
-    pub too-dear : c .limit < used → Begins c l n e code (Refused 1)
-    too-dear h = λ s st ld rp pre ml slh b i. tested _ b l n e code i used p ∙ rw (f, lt-leb used (c .limit) h)
+    pub too-dear : c .limit < used → Begins c l n e code (Refused (refusal 1 0))
+    too-dear h = λ s st ld rp pre b i. tested _ b l n e code i used p ∙ rw (f, lt-leb used (c .limit) h)
 
     -- the offset decides
     pub at-offset : used ≤ c .limit → (t : Bool) → member (e .offset) (startsOf code) ≡ t →
-        Begins c l n e code (pick t (Done (record { layout = l; entry = e; lent = n; used = used })) (Refused 14))
-    at-offset a true h = λ s st ld rp pre ml slh b i. found _ b l n e code i used p a (tested _ b l n e code i used p ∙ rw (f, le-leb used (c .limit) a, h))
-    at-offset a false h = λ s st ld rp pre ml slh b i. tested _ b l n e code i used p ∙ rw (f, le-leb used (c .limit) a, h)
+        Begins c l n e code (pick t (Done (record { layout = l; entry = e; lent = n; used = used })) (Refused (refusal 14 0)))
+    at-offset a true h = λ s st ld rp pre b i. found _ b l n e code i used p a (tested _ b l n e code i used p ∙ rw (f, le-leb used (c .limit) a, h))
+    at-offset a false h = λ s st ld rp pre b i. tested _ b l n e code i used p ∙ rw (f, le-leb used (c .limit) a, h)

@@ -1,6 +1,6 @@
 -- What the code's opening tells of document 01's.
 use mathlib.Core.Path.{_≡_}
-use mathlib.Core.Bool.{true}
+use mathlib.Core.Bool.{Bool, true, false}
 use mathlib.Core.List.{List}
 use Prim.Native.Nat.{ℕ, _+_, _*_, _≤_, _<_}
 use lib.ListN.{length, take, drop}
@@ -12,21 +12,27 @@ use Rattle.container.specs.Container.{Entry, Container}
 use Rattle.container.specs.Reader.{readOf}
 use Rattle.container.specs.declared.entries.Slots.{Slots}
 use Rattle.opening.specs.Opening.{Input, Lent, start, refuse, envOf, machineFor, openingRead}
+use Rattle.machine.specs.declared.host.Host.{Host}
 use Rattle.opening.specs.declared.open.Call.{Call}
 use Rattle.opening.specs.declared.open.Opened.{Opened}
 use Rattle.opening.specs.declared.open.Opening.{Opening}
 use Rattle.opening.specs.declared.open.Opening.the-variants.{Done, Refused}
 
--- the input of a call; the two totals and the preload play no part in its opening
-abbrev pub inputOf : Call → (container store loader replies preload : List ℕ) → (ml slh : ℕ) → Input
-inputOf c s st ld rp pre ml slh = record {
+-- an entry's call, by a selector, and the call of the genesis entry
+abbrev pub entryCall : (selector limit : ℕ) → Host → (present : Bool) → Call
+entryCall selector limit h p = record { entry = true; selector = selector; limit = limit; host = h; present = p }
+
+abbrev pub genesisCall : (limit : ℕ) → Host → (present : Bool) → Call
+genesisCall limit h p = record { entry = false; selector = h .genesis; limit = limit; host = h; present = p }
+
+-- the input of a call
+abbrev pub inputOf : Call → (container store loader replies preload : List ℕ) → Input
+inputOf c s st ld rp pre = record {
   container = s;
   entry = c .entry;
   selector = c .selector;
   limit = c .limit;
-  genesis = c .genesis;
-  ml-signed = ml;
-  slh-signed = slh;
+  host = c .host;
   store = st;
   present = c .present;
   loader = ld;
@@ -67,6 +73,6 @@ abbrev pub ToldOf : Input → Lent → Opening → Type 0
 ToldOf x b (Done o) = Found x b o
 ToldOf x b (Refused n) = openingRead x b (readOf (x .container)) ≡ refuse n
 
--- whatever is lent, and whatever the totals and the preload are
+-- whatever is lent, and whatever the preload is
 abbrev pub Opens : Call → (container store loader replies : List ℕ) → Opening → Type 0
-Opens c s st ld rp r = (pre : List ℕ) (ml slh : ℕ) (b : Lent) → ToldOf (inputOf c s st ld rp pre ml slh) b r
+Opens c s st ld rp r = (pre : List ℕ) (b : Lent) → ToldOf (inputOf c s st ld rp pre) b r

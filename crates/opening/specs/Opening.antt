@@ -6,21 +6,24 @@ use lib.Dec.{leb, eqb}
 use lib.ListN.{length, take, replicate}
 use Rattle.words.specs.Choice.{pick, both}
 use Rattle.words.specs.Lists.{member}
+use Rattle.words.specs.Refusals.{refusal}
+use Rattle.words.specs.declared.refusal.Refusal.{Refusal}
 use Rattle.meter.specs.Prices.{dispatchPrice}
 use Rattle.tables.specs.Rows.{rows}
 use Rattle.tables.specs.Checked.{checkedOf}
-use Rattle.tables.specs.Answers.{checkedNumber, repliesNumber}
-use Rattle.tables.specs.Replies.{repliesOf}
-use Rattle.container.specs.Container.{Entry, Container}
+use Rattle.tables.specs.Answers.{checkedNumber}
+use Rattle.replies.specs.Answers.{repliesNumber}
+use Rattle.replies.specs.Replies.{repliesOf}
+use Rattle.container.specs.Container.{Entry, Container, slotCount}
 use Rattle.container.specs.Reader.{Read, done, refused, readOf}
 use Rattle.container.specs.Answers.{readError}
-use Rattle.container.specs.Starts.{walkOf}
-use Rattle.container.specs.Verify.{slotCount}
-use Rattle.keys.specs.Bridge.{loaderOf, roomsOf}
+use Rattle.starts.specs.Starts.{walkOf}
+use Rattle.keys.specs.Lent.{loaderOf, roomsOf}
 use Rattle.keys.specs.Opening.{noKeys}
 use Rattle.state.specs.Regs.{cleared}
 use Rattle.machine.specs.Machine.{Env, Machine, machine}
-use Rattle.machine.specs.Bridge.{Bufs, repliesLeft}
+use Rattle.machine.specs.declared.host.Host.{Host}
+use Rattle.machine.specs.Lent.{Bufs, repliesLeft}
 
 -- what a call is given; only an entry's call refuses the genesis selector
 pub record Input : Type 0 where
@@ -28,9 +31,7 @@ pub record Input : Type 0 where
   pub entry : Bool
   pub selector : ℕ
   pub limit : ℕ
-  pub genesis : ℕ
-  pub ml-signed : ℕ
-  pub slh-signed : ℕ
+  pub host : Host
   pub store : List ℕ
   pub present : Bool
   pub loader : List ℕ
@@ -43,12 +44,12 @@ pub record Lent : Type 0 where
   pub map : List ℕ
 
 pub data Opening : Type 0 where
-  refuse : (number : ℕ) → Opening
+  refuse : Refusal → Opening
   start : Env → Machine → Opening
 
 -- on with the opening, or this refusal
 abbrev pub must : Bool → ℕ → Opening → Opening
-must ok n then = pick ok then (refuse n)
+must ok n then = pick ok then (refuse (refusal n 0))
 
 -- instruction starts: reading from 0 to the first undecodable place; no index of 16 bits comes to 65536, so none ends the reading
 abbrev pub startsOf : List ℕ → List ℕ
@@ -92,8 +93,7 @@ envOf x b c e = record {
     loader = loaderOf (x .present) (rows 40 (length (x .loader) / 40) (x .loader));
   };
   limit = x .limit;
-  ml-signed = x .ml-signed;
-  slh-signed = x .slh-signed;
+  host = x .host;
   rooms = roomsOf (b .run .keys);
   log-room = length (b .run .log);
 }
@@ -112,20 +112,20 @@ openingAt x b c e =
 
 -- absent 9, present twice 14
 unfoldable pub openingOne : Input → Lent → Container → List Entry → Opening
-openingOne x b c [] = refuse 9
+openingOne x b c [] = refuse (refusal 9 0)
 openingOne x b c (e ∷ []) = openingAt x b c e
-openingOne x b c (e ∷ f ∷ es) = refuse 14
+openingOne x b c (e ∷ f ∷ es) = refuse (refusal 14 0)
 
 -- store and loader 45, replies 46; then the entry
 unfoldable pub openingIn : Input → Lent → Container → Opening
 openingIn x b c =
     must (eqb (tablesNumber x) 0) (tablesNumber x)
-    (must (not (both (x .entry) (eqb (x .selector) (x .genesis)))) 9
+    (must (not (both (x .entry) (eqb (x .selector) (x .host .genesis)))) 9
     (must (within c) 14
     (openingOne x b c (matching (x .selector) (c .entries)))))
 
 unfoldable pub openingRead : Input → Lent → Read → Opening
-openingRead x b (refused r) = refuse (readError r .number)
+openingRead x b (refused r) = refuse (readError r)
 openingRead x b (done c) = openingIn x b c
 
 unfoldable pub openingOf : Input → Lent → Opening

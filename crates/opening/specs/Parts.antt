@@ -13,20 +13,20 @@ use Rattle.container.specs.EntryTold.{EntryFound}
 use Rattle.container.specs.ReadTold.{ReadTold}
 use Rattle.container.specs.declared.reader.Layout.{Layout}
 use Rattle.container.specs.declared.entries.EntryLayout.{EntryLayout}
-use Rattle.keys.specs.declared.look.Lent as look
+use Rattle.keys.specs.declared.look.TableRows.{TableRows}
 use Rattle.opening.specs.Opening.{Input, Lent, tablesNumber, matching, openingRead, openingIn, openingOne, openingAt}
 use Rattle.opening.specs.Opened.{inputOf, ToldOf}
 use Rattle.opening.specs.declared.open.Call.{Call}
 use Rattle.opening.specs.declared.open.Opening.{Opening}
 use Rattle.opening.specs.declared.lent.Tables.{Tables}
 use Rattle.opening.specs.declared.lent.Tables.the-variants.{Good, Bad}
-use Rattle.opening.specs.declared.only.Sought.{Sought}
-use Rattle.opening.specs.declared.only.Sought.the-variants.{At, Missing, Twice}
+use Rattle.opening.specs.declared.unique_entry.Sought.{Sought}
+use Rattle.opening.specs.declared.unique_entry.Sought.the-variants.{At, Missing, Twice}
 
 -- ---- tables
 
 -- none is refused, and these are the rows of store and loader
-pub record Tabled (x : Input) (n : look.Lent) : Type 0 where
+pub record Tabled (x : Input) (n : TableRows) : Type 0 where
   pub number : tablesNumber x ≡ 0
   pub store : checkedOf 40 (x .store) ≡ Whole (n .store)
   pub present : n .present ≡ x .present
@@ -37,7 +37,7 @@ TablesTold x (Good n) = Tabled x n
 TablesTold x (Bad n) = (tablesNumber x ≡ n) × (eqb n 0 ≡ false)
 
 abbrev pub Checks : Call → (store loader replies : List ℕ) → Tables → Type 0
-Checks c st ld rp r = (s pre : List ℕ) (ml slh : ℕ) → TablesTold (inputOf c s st ld rp pre ml slh) r
+Checks c st ld rp r = (s pre : List ℕ) → TablesTold (inputOf c s st ld rp pre) r
 
 -- ---- the entry with a selector
 
@@ -61,36 +61,36 @@ OnlyTold s selector es Twice = Two selector es
 
 -- ---- a call whose container was read and whose tables were checked
 
-pub record Entering (x : Input) (b : Lent) (l : Layout) (n : look.Lent) (part : List ℕ) : Type 0 where
+pub record Entering (x : Input) (b : Lent) (l : Layout) (n : TableRows) (part : List ℕ) : Type 0 where
   pub read : ReadTold (x .container) l
   pub bytes : Bytes (x .container)
   pub code : part ≡ read .found .code
   pub tables : Tabled x n
   pub is : openingRead x b (readOf (x .container)) ≡ openingIn x b (read .found)
 
-abbrev pub Enters : Call → Layout → look.Lent → (container code : List ℕ) → Opening → Type 0
+abbrev pub Enters : Call → Layout → TableRows → (container code : List ℕ) → Opening → Type 0
 Enters c l n s code r =
-    (st ld rp pre : List ℕ) (ml slh : ℕ) (b : Lent) → Entering (inputOf c s st ld rp pre ml slh) b l n code → ToldOf (inputOf c s st ld rp pre ml slh) b r
+    (st ld rp pre : List ℕ) (b : Lent) → Entering (inputOf c s st ld rp pre) b l n code → ToldOf (inputOf c s st ld rp pre) b r
 
 -- and whose entries were searched for the selector
-pub record Choosing (x : Input) (b : Lent) (l : Layout) (n : look.Lent) (part : List ℕ) (o : Sought) : Type 0 where
+pub record Choosing (x : Input) (b : Lent) (l : Layout) (n : TableRows) (part : List ℕ) (o : Sought) : Type 0 where
   pub entering : Entering x b l n part
   pub small : l .code ≤ 65536
   pub is : openingRead x b (readOf (x .container)) ≡ openingOne x b (entering .read .found) (matching (x .selector) (entering .read .found .entries))
   pub told : OnlyTold (x .container) (x .selector) (entering .read .found .entries) o
 
-abbrev pub Searched : Call → Layout → look.Lent → (container code : List ℕ) → Sought → Type 0
+abbrev pub Searched : Call → Layout → TableRows → (container code : List ℕ) → Sought → Type 0
 Searched c l n s code o =
-    (st ld rp pre : List ℕ) (ml slh : ℕ) (b : Lent) → Entering (inputOf c s st ld rp pre ml slh) b l n code → Choosing (inputOf c s st ld rp pre ml slh) b l n code o
+    (st ld rp pre : List ℕ) (b : Lent) → Entering (inputOf c s st ld rp pre) b l n code → Choosing (inputOf c s st ld rp pre) b l n code o
 
 -- and whose one entry was found
-pub record Beginning (x : Input) (b : Lent) (l : Layout) (n : look.Lent) (e : EntryLayout) (part : List ℕ) : Type 0 where
+pub record Beginning (x : Input) (b : Lent) (l : Layout) (n : TableRows) (e : EntryLayout) (part : List ℕ) : Type 0 where
   pub entering : Entering x b l n part
   pub small : l .code ≤ 65536
   pub at : ℕ
   pub entry : EntryFound (x .container) at e
   pub is : openingRead x b (readOf (x .container)) ≡ openingAt x b (entering .read .found) (entry .found)
 
-abbrev pub Begins : Call → Layout → look.Lent → EntryLayout → (code : List ℕ) → Opening → Type 0
+abbrev pub Begins : Call → Layout → TableRows → EntryLayout → (code : List ℕ) → Opening → Type 0
 Begins c l n e code r =
-    (s st ld rp pre : List ℕ) (ml slh : ℕ) (b : Lent) → Beginning (inputOf c s st ld rp pre ml slh) b l n e code → ToldOf (inputOf c s st ld rp pre ml slh) b r
+    (s st ld rp pre : List ℕ) (b : Lent) → Beginning (inputOf c s st ld rp pre) b l n e code → ToldOf (inputOf c s st ld rp pre) b r

@@ -9,7 +9,7 @@ use Rattle.isa.specs.DecodeLaws.{read-within}
 use Rattle.container.specs.Container.{Entry}
 use Rattle.container.specs.Reader.{Parsed, read, andThen, part, number, counted, entry, layoutOf}
 use Rattle.container.specs.Entries.{placed}
-use Rattle.container.specs.ParseLaws.{length-words}
+use Rattle.words.specs.BytesLaws.{length-words}
 use Rattle.container.specs.EntryLaws.{lists, head}
 use Rattle.container.specs.EntryTold.{both-read, after, counted-told, entry-told, EntryFound}
 use Rattle.container.specs.ReadTold.{number-told, part-told, ReadTold}

@@ -12,12 +12,12 @@ use Rattle.isa.specs.Codec.{decodeAt}
 use Rattle.isa.specs.declared.instr.Instr.{Instr}
 use Rattle.isa.specs.declared.codec.DecodeError.{DecodeError}
 use Rattle.isa.specs.declared.codec.Decoded.the-variants.{Done, Refused}
-use Rattle.container.specs.Starts.{Walk, refersTo, ended, met, walkOf}
-use Rattle.container.specs.Marks.{indexOf}
-use Rattle.container.specs.ScanLaws.{onward, from-start, walk-end, walk-refused, walk-bad, walk-on}
-use Rattle.container.specs.EnoughConsts.{never-bad}
-use Rattle.container.specs.declared.starts.Stands.{Stands}
-use Rattle.container.specs.declared.starts.Stands.the-variants.{Yes, No}
+use Rattle.starts.specs.Starts.{Walk, ended, met, walkOf, indexOf}
+use Rattle.isa.specs.Refers.{refersTo}
+use Rattle.starts.specs.ScanLaws.{onward, from-start, walk-end, walk-refused, walk-bad, walk-on}
+use Rattle.starts.specs.EnoughConsts.{never-bad}
+use Rattle.starts.specs.declared.scan_answers.Stands.{Stands}
+use Rattle.starts.specs.declared.scan_answers.Stands.the-variants.{Yes, No}
 use Rattle.opening.specs.Opening.{startsOf}
 
 -- what is left of the code decides, and ends the reading

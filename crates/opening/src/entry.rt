@@ -6,26 +6,27 @@ ghost use Rattle.container.specs.Container.{Container};
 ghost use Rattle.container.specs.Reader.{layoutOf};
 ghost use Rattle.opening.specs.Opening.{within};
 ghost use Rattle.opening.specs.Parts.{Begins, Enters};
-use super::only::Sought;
 use super::open::Call;
 use super::open::Opened;
 use super::open::Opening;
+use super::unique_entry::Sought;
 use container::entries::EntryLayout;
 use container::reader::Layout;
-use keys::look::Lent;
+use keys::look::TableRows;
+use words::refusal::Refusal;
 
 // Whether an entry's call asks for the genesis selector.
-fn barred(call: Call) -> bool
-    ensures { λ r. ⌜ r ≡ both (call .entry) (eqb (call .selector) (call .genesis)) ⌝ }
+fn asks_for_genesis(call: Call) -> bool
+    ensures { λ r. ⌜ r ≡ both (call .entry) (eqb (call .selector) (call .host .genesis)) ⌝ }
 {
     if call.entry {
-        return call.selector == call.genesis;
+        return call.selector == call.host.genesis;
     }
     false
 }
 
 // At most 65536 bytes of code, 4096 constants, 256 entries.
-fn small(l: Layout) -> bool
+fn sizes_within_limits(l: Layout) -> bool
     ensures { λ r. ⌜ ((c : Container) → l ≡ layoutOf c → r ≡ within c) ⌝ }
 {
     if 65536 < l.code {
@@ -38,18 +39,27 @@ fn small(l: Layout) -> bool
 }
 
 // The entry's slots, what opening costs, the entry's offset.
-fn begin(call: Call, l: Layout, lent: Lent, e: EntryLayout, code: &[u8]) -> Opening
+fn begin(call: Call, l: Layout, lent: TableRows, e: EntryLayout, code: &[u8]) -> Opening
     ensures { λ r. ⌜ Begins call l lent e (now (code .entry)) r ⌝ }
 {
-    if !container::checks::few(e) {
-        return Opening::Refused(14);
+    if !container::entries::slots_within_limit(e) {
+        return Opening::Refused(Refusal {
+            number: 14,
+            argument: 0,
+        });
     }
     let used = meter::dispatch(l.code as u64);
     if call.limit < used {
-        return Opening::Refused(1);
+        return Opening::Refused(Refusal {
+            number: 1,
+            argument: 0,
+        });
     }
-    if !super::starts::is_start(code, e.offset) {
-        return Opening::Refused(14);
+    if !super::unmapped::is_start(code, e.offset) {
+        return Opening::Refused(Refusal {
+            number: 14,
+            argument: 0,
+        });
     }
     Opening::Done(Opened {
         layout: l,
@@ -60,19 +70,36 @@ fn begin(call: Call, l: Layout, lent: Lent, e: EntryLayout, code: &[u8]) -> Open
 }
 
 // The call's selector, the container's sizes, then the entry.
-pub fn enter(call: Call, l: Layout, lent: Lent, container: &[u8], code: &[u8]) -> Opening
+pub fn enter(call: Call, l: Layout, lent: TableRows, container: &[u8], code: &[u8]) -> Opening
     ensures { λ r. ⌜ Enters call l lent (now (container .entry)) (now (code .entry)) r ⌝ }
 {
-    if barred(call) {
-        return Opening::Refused(9);
+    if asks_for_genesis(call) {
+        return Opening::Refused(Refusal {
+            number: 9,
+            argument: 0,
+        });
     }
-    if !small(l) {
-        return Opening::Refused(14);
+    if !sizes_within_limits(l) {
+        return Opening::Refused(Refusal {
+            number: 14,
+            argument: 0,
+        });
     }
-    let o = super::only::only(container, l.entries_at, l.entries, call.selector);
+    let o = super::unique_entry::unique_entry(
+        container,
+        l.entries_at,
+        l.entries,
+        call.selector as u64,
+    );
     match o {
-        Sought::Missing => Opening::Refused(9),
-        Sought::Twice => Opening::Refused(14),
+        Sought::Missing => Opening::Refused(Refusal {
+            number: 9,
+            argument: 0,
+        }),
+        Sought::Twice => Opening::Refused(Refusal {
+            number: 14,
+            argument: 0,
+        }),
         Sought::At(e) => begin(call, l, lent, e, code),
     }
 }

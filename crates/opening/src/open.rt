@@ -1,31 +1,62 @@
 // The refusals of an opening in document 01's order, from the container on.
-ghost use Rattle.opening.specs.Opened.{Opens};
+ghost use mathlib.Core.Path.{_≡_};
+ghost use Rattle.opening.specs.Opened.{entryCall, genesisCall, Opens};
 use super::lent::Tables;
 use container::entries::EntryLayout;
 use container::reader::Layout;
 use container::reader::Reading;
-use keys::look::Lent;
+use keys::look::TableRows;
+use machine::host::Host;
+use words::refusal::Refusal;
 
 // What a call asks for: whether by an entry's call, which refuses the genesis selector; and whether there is a loader.
 pub struct Call {
     pub entry: bool,
-    pub selector: u64,
+    pub selector: u32,
     pub limit: u64,
-    pub genesis: u64,
+    pub host: Host,
     pub present: bool,
+}
+
+impl Call {
+    // An entry's call, by a selector.
+    pub fn for_entry(selector: u32, limit: u64, host: Host, present: bool) -> Call
+        ensures { λ r. ⌜ r ≡ entryCall selector limit host present ⌝ }
+    {
+        Call {
+            entry: true,
+            selector,
+            limit,
+            host,
+            present,
+        }
+    }
+
+    // The call of the genesis entry.
+    pub fn for_genesis(limit: u64, host: Host, present: bool) -> Call
+        ensures { λ r. ⌜ r ≡ genesisCall limit host present ⌝ }
+    {
+        Call {
+            entry: false,
+            selector: host.genesis,
+            limit,
+            host,
+            present,
+        }
+    }
 }
 
 // Where the container's parts and the entry's stand, the rows of store and loader, and what opening costs.
 pub struct Opened {
     pub layout: Layout,
     pub entry: EntryLayout,
-    pub lent: Lent,
+    pub lent: TableRows,
     pub used: u64,
 }
 
 pub enum Opening {
     Done(Opened),
-    Refused(u64),
+    Refused(Refusal),
 }
 
 pub fn open(call: Call, container: &[u8], store: &[u8], loader: &[u8], replies: &[u8]) -> Opening
@@ -33,13 +64,16 @@ pub fn open(call: Call, container: &[u8], store: &[u8], loader: &[u8], replies: 
 {
     let d = container::reader::read(container);
     match d {
-        Reading::Refused(e) => Opening::Refused(e.number()),
+        Reading::Refused(e) => Opening::Refused(e.refusal()),
         Reading::Done(l) => {
             let at = l.code_at;
             let end = at + l.code;
             let t = super::lent::check(call, store, loader, replies);
             match t {
-                Tables::Bad(n) => Opening::Refused(n),
+                Tables::Bad(n) => Opening::Refused(Refusal {
+                    number: n,
+                    argument: 0,
+                }),
                 Tables::Good(lent) => super::entry::enter(
                     call,
                     l,

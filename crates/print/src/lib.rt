@@ -1,4 +1,6 @@
-// What the test programs print: text, numbers in decimal, bytes in hex or in decimal.
+// What the programs share: text, numbers in decimal, bytes in hex or in decimal printed, and parts of what was read.
+pub mod parts;
+
 use libc::STDOUT_FILENO;
 
 pub fn text(s: &[u8]) {

@@ -12,7 +12,9 @@ use Rattle.state.specs.Regs.{reg}
 use Rattle.machine.specs.Machine.{Env, Machine}
 use Rattle.machine.specs.Actions.{actionOf}
 use Rattle.machine.specs.StorageRules.{keyAt}
-use Rattle.machine.specs.Outcomes.{Grant, grantBy, extraOf}
+use Rattle.machine.specs.Grants.{Grant, grantBy}
+use Rattle.machine.specs.Rules.{bill}
+use Rattle.machine.specs.Turns.{ruleOf}
 use Rattle.machine.specs.Trace.{Took}
 use Rattle.machine.specs.declared.action.Action.{Action}
 use Rattle.machine.specs.declared.action.Action.the-variants as action
@@ -20,9 +22,9 @@ use Rattle.machine.specs.declared.action.Access.the-variants.{SLoad, SStore}
 
 -- ---- prices
 
--- a step's price: its base price, and what its rule adds
+-- a step's price: its base price, and the bill of its rule
 unfoldable pub priceIn : Env → Took → ℕ
-priceIn e t = priceOf (formOf (t .instr) .op) + extraOf e (actionOf (t .instr)) (t .on)
+priceIn e t = priceOf (formOf (t .instr) .op) + bill (ruleOf e (t .instr) (t .on))
 
 -- the prices of steps, summed
 unfoldable pub billOf : Env → List Took → ℕ

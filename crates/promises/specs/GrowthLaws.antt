@@ -14,7 +14,7 @@ use Rattle.keys.specs.Known.{Env, Keys}
 use Rattle.keys.specs.Values.{row, has, firstOf, lookIn, look}
 use Rattle.keys.specs.Steps.{paysFresh, freshAt}
 use Rattle.promises.specs.Grown.{startIn, tally, grew}
-use Rattle.promises.specs.Counting.{tally-mono, tally-length, tally-insert, tally-again, has-same, has-more, length-more}
+use Rattle.promises.specs.CountingLaws.{tally-mono, tally-length, tally-insert, tally-again, has-same, has-more, length-more}
 use Rattle.promises.specs.FetchedLaws.{Honest, seen-start}
 
 -- a key that grew and has not paid as fresh

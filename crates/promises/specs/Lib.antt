@@ -1,14 +1,17 @@
-pub mod Cases
-pub mod Opened
+-- definitions
 pub mod Accounts
-pub mod Bill
 pub mod Grown
-pub mod Counting
-pub mod Rights
+pub mod Promised
+-- laws
+pub mod OpenedLaws
+pub mod BillLaws
+pub mod CountingLaws
 pub mod FetchedLaws
 pub mod GrowthLaws
-pub mod Growth
-pub mod Promised
-pub mod Call
-pub mod Carried
-pub mod Determined
+pub mod RightsLaws
+pub mod RunGrowthLaws
+-- theorems
+pub mod CallTheorems
+pub mod CarriedTheorems
+pub mod DeterminedTheorems
+pub mod CaseTheorems

@@ -62,4 +62,4 @@ pub record Halted (x : Input) (b : Lent) (d : ℕ) (o : Opening) (r : Called) : 
 pub record Promised (x : Input) (b : Lent) (c : Container) (o : Opening) (r : Called) : Type 0 where
   pub fetches : r .answer .fetches ≤ x .limit - dispatchPrice (length (c .code)) + 1
   pub righted : RightedIn o
-  pub halted : r .answer .number ≡ 0 → Halted x b (dispatchPrice (length (c .code))) o r
+  pub halted : r .answer .end .number ≡ 0 → Halted x b (dispatchPrice (length (c .code))) o r

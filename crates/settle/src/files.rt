@@ -68,19 +68,3 @@ pub fn save(i: usize, s: &[u8]) -> bool {
     libc::close(fd);
     written
 }
-
-// The first n bytes, or all where there are fewer.
-pub fn front(s: &[u8], n: usize) -> &[u8] {
-    part(s, 0, n)
-}
-
-// The bytes between two places; all where there are none such.
-pub fn part(s: &[u8], from: usize, to: usize) -> &[u8] {
-    if to < from {
-        return s;
-    }
-    if s.len() < to {
-        return s;
-    }
-    &s[from..to]
-}

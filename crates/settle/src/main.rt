@@ -5,12 +5,15 @@ mod report;
 mod said;
 
 use args::Asked;
+use calls::Head;
+use calls::Parted;
 use changes::ChangeList;
 use files::Loaded;
 use interp::answer::Answer;
-use interp::call::Host;
-use settle_text::call_file::Head;
-use settle_text::call_file::Parted;
+use machine::host::Host;
+use opening::open::Call;
+use print::parts::between;
+use print::parts::first;
 
 fn host(a: Asked) -> Host {
     Host {
@@ -32,7 +35,7 @@ fn save(a: Asked, store: &[u8], changes: &[u8], count: usize) {
     if n > 8192 {
         return;
     }
-    if files::save(a.out, files::front(&new, n * 40)) {
+    if files::save(a.out, first(&new, n * 40)) {
         said::count(b"new store rows", n as u64);
     }
 }
@@ -40,7 +43,8 @@ fn save(a: Asked, store: &[u8], changes: &[u8], count: usize) {
 // What a call left: lines, and the new store if it halted and one is asked for.
 fn tell(a: Asked, limit: u64, answer: Answer, store: &[u8], changes: &[u8], log: &[u8]) {
     report::answer(answer, limit);
-    if answer.number != 0 {
+    let end = answer.end;
+    if end.number != 0 {
         return;
     }
     report::changes(changes, answer.changes as usize);
@@ -68,16 +72,14 @@ fn run(
     let mut reads = [0u8; 131072];
     let mut writes = [0u8; 131072];
     let mut fresh = [0u8; 131072];
-    let answer = interp::call::for_entry(
+    let selector = (h.selector % 4294967296) as u32;
+    let answer = interp::call::run(
+        Call::for_entry(selector, h.limit, host(a), a.loader != 0),
         container,
-        (h.selector % 4294967296) as u32,
-        h.limit,
-        host(a),
         store,
-        a.loader != 0,
         loader,
-        files::part(call, settle_text::call_file::HEAD, h.preload),
-        files::part(call, h.preload, call.len()),
+        between(call, calls::HEAD, h.preload),
+        between(call, h.preload, call.len()),
         &mut memory,
         &mut stack,
         &mut starts,
@@ -98,7 +100,7 @@ fn with_log(a: Asked, h: Head, container: &[u8], store: &[u8], loader: &[u8], ca
 }
 
 fn settle(a: Asked, container: &[u8], store: &[u8], call: &[u8], loader: &[u8]) {
-    let p = settle_text::call_file::cut(call);
+    let p = calls::cut(call);
     match p {
         Parted::Short => said::complain(b"CALL", b"ends before its counts say"),
         Parted::Long => said::complain(b"CALL", b"has bytes after the preload"),
@@ -125,10 +127,10 @@ fn with_files(a: Asked) {
     };
     settle(
         a,
-        files::front(&container, c),
-        files::front(&store, s),
-        files::front(&call, k),
-        files::front(&loader, l),
+        first(&container, c),
+        first(&store, s),
+        first(&call, k),
+        first(&loader, l),
     );
 }
 

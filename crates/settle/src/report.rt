@@ -1,16 +1,17 @@
 // What a call left, line by line.
 use interp::answer::Answer;
-use settle_text::lines::LINE;
+use lines::LINE;
 
 // The longest effect's line: a region of the whole memory.
 const EFFECT_LINE: usize = 131152;
 
 pub fn answer(a: Answer, limit: u64) {
     let mut out = [0u8; LINE];
-    let n = settle_text::lines::end_line(&mut out, a.number, a.argument, a.fetches);
+    let end = a.end;
+    let n = lines::answer::end_line(&mut out, end.number, end.argument, a.fetches);
     crate::said::line(&out, n);
-    if a.number == 0 {
-        let m = settle_text::lines::used_line(&mut out, a.used, limit);
+    if end.number == 0 {
+        let m = lines::answer::used_line(&mut out, a.used, limit);
         crate::said::line(&out, m);
     }
     crate::said::count(b"fetches", a.fetches);
@@ -27,7 +28,7 @@ pub fn changes(t: &[u8], n: usize) {
         }
         let at = i * 40;
         let end = at + 40;
-        let k = settle_text::lines::change_line(&mut out, &t[at..end]);
+        let k = lines::answer::change_line(&mut out, &t[at..end]);
         crate::said::line(&out, k);
         i += 1;
     }
@@ -44,11 +45,11 @@ pub fn effects(log: &[u8], end: usize) {
     let mut newer = n;
     while 0 < newer {
         newer -= 1;
-        let at = settle_text::posted::without(log, end, newer);
+        let at = lines::effect::end_before_newest(log, end, newer);
         if at == 0 {
             return;
         }
-        let k = settle_text::posted::effect_line(&mut out, log, at);
+        let k = lines::effect::effect_line(&mut out, log, at);
         crate::said::line(&out, k);
     }
 }

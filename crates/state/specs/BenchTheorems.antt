@@ -6,11 +6,12 @@ use Rattle.isa.specs.declared.instr.Instr.{Instr}
 use Rattle.isa.specs.declared.codec.FirstBad.{FirstBad}
 use Rattle.isa.specs.declared.codec.FirstBad.the-variants.{Bad, NoneBad}
 use Rattle.isa.specs.Forms.{formOf}
+use Rattle.isa.specs.Kinds.{registerOp}
 use Rattle.isa.specs.Codec.{firstBad}
 use Rattle.state.specs.declared.regs.RegFile.{RegFile}
-use Rattle.state.specs.Regs.{refused, stepOf}
-use Rattle.state.specs.RegsTheorems.{Keeps, step-keeps}
-use Rattle.state.specs.Bench.{registerOp, unlessBad, benchOf}
+use Rattle.state.specs.Regs.{Keeps, refused, stepOf}
+use Rattle.state.specs.RegsTheorems.{step-keeps}
+use Rattle.state.specs.Bench.{unlessBad, benchOf}
 
 pub bench-keeps : (i : Instr) (f : RegFile) → Keeps f (benchOf i f)
 bench-keeps i f = go (registerOp (formOf i .op)) (firstBad (formOf i .regs))

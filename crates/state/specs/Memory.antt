@@ -1,5 +1,6 @@
 -- Memory: what lies inside, and what loads and stores do (document 01, Numbers returned: 6; numbers are big-endian).
-use mathlib.Core.Bool.{Bool}
+use mathlib.Core.Path.{_≡_}
+use mathlib.Core.Bool.{Bool, true}
 use mathlib.Core.List.{List}
 use Prim.Native.Nat.{ℕ, _+_}
 use lib.Dec.{leb}
@@ -19,6 +20,12 @@ inside size offset len = leb (offset + len) size
 -- where a region starts and ends
 abbrev pub regionOf : (size offset len : ℕ) → Region
 regionOf size offset len = pick (inside size offset len) (Part offset (offset + len)) Outside
+
+-- a part is inside, from its offset on
+pub record Found (size offset len start end : ℕ) : Type 0 where
+  pub within : inside size offset len ≡ true
+  pub begin : start ≡ offset
+  pub stop : end ≡ offset + len
 
 -- the word of the eight bytes at a place
 abbrev pub loadOf : List ℕ → ℕ → Load

@@ -26,7 +26,8 @@ part-within size offset len start end r e k =
     rw (f .begin) (leb-true (offset + len) size (f .within))
 
 -- a load's two ends
-pub load-word : (mem : List ℕ) (offset start end n : ℕ) (r : Region) → r ≡ regionOf (length mem) offset 8 → r ≡ Part start end → n ≡ num (take 8 (drop start mem)) → Word n ≡ loadOf mem offset
+pub load-word : (mem : List ℕ) (offset start end n : ℕ) (r : Region) → r ≡ regionOf (length mem) offset 8 → r ≡ Part start end
+    → n ≡ num (take 8 (drop start mem)) → Word n ≡ loadOf mem offset
 load-word mem offset start end n r e k h =
     let f = found (length mem) offset 8 r e start end k in
     rw (f .within) (ap Word (h ∙ ap (λ (i : ℕ). num (take 8 (drop i mem))) (f .begin)))
@@ -35,7 +36,8 @@ pub load-bad : (mem : List ℕ) (offset : ℕ) (r : Region) → r ≡ regionOf (
 load-bad mem offset r e k = rw (missed (length mem) offset 8 r e k)
 
 -- the two ends of what puts bytes
-put-inside : (mem out new : List ℕ) (offset len start end : ℕ) (r : Region) → r ≡ regionOf (length mem) offset len → r ≡ Part start end → out ≡ paste mem start new len
+put-inside : (mem out new : List ℕ) (offset len start end : ℕ) (r : Region) → r ≡ regionOf (length mem) offset len → r ≡ Part start end
+    → out ≡ paste mem start new len
     → (true ≡ inside (length mem) offset len) × (out ≡ pick (inside (length mem) offset len) (paste mem offset new len) mem)
 put-inside mem out new offset len start end r e k h =
     let f = found (length mem) offset len r e start end k in
@@ -46,17 +48,20 @@ put-outside : (mem new : List ℕ) (offset len : ℕ) (r : Region) → r ≡ reg
 put-outside mem new offset len r e k = rw (missed (length mem) offset len r e k) (refl, refl)
 
 -- of a store
-pub store-inside : (mem out : List ℕ) (offset v start end : ℕ) (r : Region) → r ≡ regionOf (length mem) offset 8 → r ≡ Part start end → out ≡ paste mem start (beBytes 8 v) 8
+pub store-inside : (mem out : List ℕ) (offset v start end : ℕ) (r : Region) → r ≡ regionOf (length mem) offset 8 → r ≡ Part start end
+    → out ≡ paste mem start (beBytes 8 v) 8
     → (true ≡ inside (length mem) offset 8) × (out ≡ storedAt mem offset v)
 unfolding storedAt
 store-inside mem out offset v = put-inside mem out (beBytes 8 v) offset 8
 
-pub store-outside : (mem : List ℕ) (offset v : ℕ) (r : Region) → r ≡ regionOf (length mem) offset 8 → r ≡ Outside → (false ≡ inside (length mem) offset 8) × (mem ≡ storedAt mem offset v)
+pub store-outside : (mem : List ℕ) (offset v : ℕ) (r : Region) → r ≡ regionOf (length mem) offset 8 → r ≡ Outside
+    → (false ≡ inside (length mem) offset 8) × (mem ≡ storedAt mem offset v)
 unfolding storedAt
 store-outside mem offset v = put-outside mem (beBytes 8 v) offset 8
 
 -- of a write
-pub write-inside : (mem out bytes : List ℕ) (offset start end : ℕ) (r : Region) → r ≡ regionOf (length mem) offset (length bytes) → r ≡ Part start end → out ≡ paste mem start bytes (length bytes)
+pub write-inside : (mem out bytes : List ℕ) (offset start end : ℕ) (r : Region) → r ≡ regionOf (length mem) offset (length bytes) → r ≡ Part start end
+    → out ≡ paste mem start bytes (length bytes)
     → (true ≡ inside (length mem) offset (length bytes)) × (out ≡ writtenAt mem offset bytes)
 unfolding writtenAt
 write-inside mem out bytes offset = put-inside mem out bytes offset (length bytes)

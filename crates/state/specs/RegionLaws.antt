@@ -8,15 +8,9 @@ use lib.ListN.{length, take, drop, length-drop}
 use lib.Seq.{length-take-le}
 use borrow.Author.Tests.{leb-true}
 use Rattle.words.specs.Choice.{pick}
-use Rattle.state.specs.Memory.{inside, regionOf}
+use Rattle.state.specs.Memory.{inside, Found, regionOf}
 use Rattle.state.specs.declared.memory.Region.{Region}
 use Rattle.state.specs.declared.memory.Region.the-variants.{Part, Outside}
-
--- a part is inside, from its offset on
-pub record Found (size offset len start end : ℕ) : Type 0 where
-  pub within : inside size offset len ≡ true
-  pub begin : start ≡ offset
-  pub stop : end ≡ offset + len
 
 module _ (size offset len : ℕ) (x : Region) (h : x ≡ regionOf size offset len) where
   pub missed : x ≡ Outside → inside size offset len ≡ false

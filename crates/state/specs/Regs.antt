@@ -1,4 +1,5 @@
 -- The register file and its operations (document 01, The run and What changes shape here).
+use mathlib.Core.Path.{_≡_}
 use mathlib.Core.List.{List}
 use Prim.Native.Nat.{ℕ, _+_, _-_, _*_, _/_, _%_, _^_}
 use lib.ListN.{getD, set, replicate}
@@ -40,6 +41,10 @@ done f = record { file = f; fault = 0 }
 
 abbrev pub refused : RegFile → ℕ → Stepped
 refused f n = record { file = f; fault = n }
+
+-- what faults leaves the file as it was
+abbrev pub Keeps : RegFile → Stepped → Type 0
+Keeps f s = (s .fault ≡ 0 → ⊥) → s .file ≡ f
 
 -- a value put into a register
 abbrev pub putValue : RegFile → ℕ → Value → Stepped

@@ -44,20 +44,24 @@ pub set-words : (f g h : RegFile) (lo hi l u : ℕ) → l < 2 ^ 64 → g ≡ set
 set-words f g h lo hi l u w p q = q ∙ ap (λ (x : RegFile). setReg x hi u) p ∙ (λ i. setReg (setReg f lo (sym (low u 64 w) i)) hi (sym (high u 64 w) i))
 
 -- the ends of an operation on two registers
-pub two-done : (o : Op) (f : RegFile) (d a b x y : ℕ) (v : Value) (w : ℕ) → x ≡ reg f a → y ≡ reg f b → v ≡ aluOf o x y → v ≡ Done w → done (setReg f d w) ≡ ruleTwo o f d a b
+pub two-done : (o : Op) (f : RegFile) (d a b x y : ℕ) (v : Value) (w : ℕ) → x ≡ reg f a → y ≡ reg f b → v ≡ aluOf o x y → v ≡ Done w
+    → done (setReg f d w) ≡ ruleTwo o f d a b
 two-done o f d a b x y v w p q e k = ap (putValue f d) (sym k ∙ e ∙ (λ i. aluOf o (p i) (q i)))
 
-pub two-fault : (o : Op) (f : RegFile) (d a b x y : ℕ) (v : Value) (n : ℕ) → x ≡ reg f a → y ≡ reg f b → v ≡ aluOf o x y → v ≡ Fault n → refused f n ≡ ruleTwo o f d a b
+pub two-fault : (o : Op) (f : RegFile) (d a b x y : ℕ) (v : Value) (n : ℕ) → x ≡ reg f a → y ≡ reg f b → v ≡ aluOf o x y → v ≡ Fault n
+    → refused f n ≡ ruleTwo o f d a b
 two-fault o f d a b x y v n p q e k = ap (putValue f d) (sym k ∙ e ∙ (λ i. aluOf o (p i) (q i)))
 
 -- the ends of a division of two words
 over-some : (f : RegFile) (lo hi d v : ℕ) → eqb d 0 ≡ false → done (setWide f lo hi v) ≡ overWide f lo hi d v
 over-some f lo hi d v z = rw z
 
-pub divide-zero : (w : Wanted) (f : RegFile) (dlo dhi alo ahi blo bhi d : ℕ) (z : Bool) → d ≡ wideReg f blo bhi → z ≡ eqb d 0 → z ≡ true → refused f 3 ≡ ruleWide w f dlo dhi alo ahi blo bhi
+pub divide-zero : (w : Wanted) (f : RegFile) (dlo dhi alo ahi blo bhi d : ℕ) (z : Bool) → d ≡ wideReg f blo bhi → z ≡ eqb d 0 → z ≡ true
+    → refused f 3 ≡ ruleWide w f dlo dhi alo ahi blo bhi
 divide-zero w f dlo dhi alo ahi blo bhi d z e t h = rw (ap (λ (x : ℕ). eqb x 0) (sym e) ∙ sym t ∙ h)
 
-pub divide-done : (w : Wanted) (f : RegFile) (dlo dhi alo ahi blo bhi n d v : ℕ) (z : Bool) → n ≡ wideReg f alo ahi → d ≡ wideReg f blo bhi → z ≡ eqb d 0 → z ≡ false → v ≡ partOf w n d
+pub divide-done : (w : Wanted) (f : RegFile) (dlo dhi alo ahi blo bhi n d v : ℕ) (z : Bool) → n ≡ wideReg f alo ahi → d ≡ wideReg f blo bhi → z ≡ eqb d 0
+    → z ≡ false → v ≡ partOf w n d
     → done (setWide f dlo dhi v) ≡ ruleWide w f dlo dhi alo ahi blo bhi
 divide-done w f dlo dhi alo ahi blo bhi n d v z p q t h e =
     ap (λ (x : ℕ). done (setWide f dlo dhi x)) e ∙ over-some f dlo dhi d (partOf w n d) (sym t ∙ h) ∙ (λ i. overWide f dlo dhi (q i) (partOf w (p i) (q i)))

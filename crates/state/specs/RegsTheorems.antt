@@ -15,18 +15,14 @@ use Rattle.state.specs.declared.alu.Value.the-variants.{Done, Fault}
 use Rattle.state.specs.declared.alu.Wanted.{Wanted}
 use Rattle.state.specs.declared.alu.Wanted.the-variants.{Quotient, Rest}
 use Rattle.state.specs.declared.regs.RegFile.{RegFile}
-use Rattle.state.specs.declared.regs.Stepped.{Stepped}
 use Rattle.state.specs.Alu.{aluOf}
-use Rattle.state.specs.Regs.{reg, setReg, setWide, done, refused, putValue, wideReg, ruleTwo, ruleWide, stepOf}
+use Rattle.state.specs.Regs.{Keeps, reg, setReg, setWide, done, refused, putValue, wideReg, ruleTwo, ruleWide, stepOf}
 
 -- with one register for both words the high one stays
 pub high-stays : (f : RegFile) (d v : ℕ) → d < length (f .r) → reg (setWide f d d v) d ≡ v / 2 ^ 64
 high-stays f d v h = getD-set-same (set (f .r) d (v % 2 ^ 64)) d (v / 2 ^ 64) 0 (lt-length-set (f .r) d (v % 2 ^ 64) h)
 
 -- what faults leaves the file as it was
-abbrev pub Keeps : RegFile → Stepped → Type 0
-Keeps f s = (s .fault ≡ 0 → ⊥) → s .file ≡ f
-
 done-keeps : (f g : RegFile) → Keeps f (done g)
 done-keeps f g n = absurd (n refl)
 

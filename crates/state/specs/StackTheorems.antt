@@ -23,7 +23,8 @@ push-leaves words depth v = drop-set-lt (depth + 1) words depth v (omega arith)
 pub pop-takes : (words : List ℕ) (depth v : ℕ) → depth ≤ length words → popOf words depth ≡ Word v → stacked words depth ≡ stacked words (depth - 1) ++ (v ∷ [])
 pop-takes words depth v h = go (eqb depth 0) refl
   where
-    go : (t : Bool) → eqb depth 0 ≡ t → pick t StackUnderflow (Word (getD words (depth - 1) 0)) ≡ Word v → stacked words depth ≡ stacked words (depth - 1) ++ (v ∷ [])
+    go : (t : Bool) → eqb depth 0 ≡ t → pick t StackUnderflow (Word (getD words (depth - 1) 0)) ≡ Word v
+        → stacked words depth ≡ stacked words (depth - 1) ++ (v ∷ [])
     go true t e = absurd (let z : _≡_ {A = ℕ} 0 1 = cc in omega arith)
     go false t e =
         let some = eqb-false depth 0 t in
@@ -34,4 +35,5 @@ pop-takes words depth v h = go (eqb depth 0) refl
 pub pop-pushed : (words : List ℕ) (depth v : ℕ) → depth < length words → popOf (set words depth v) (depth + 1) ≡ Word v
 pop-pushed words depth v h =
     let n : depth + 1 - 1 ≡ depth = omega arith in
-    sym (pop-some (set words depth v) (depth + 1) (λ z. omega arith)) ∙ ap (λ (i : ℕ). Word (getD (set words depth v) i 0)) n ∙ ap Word (getD-set-same words depth v 0 h)
+    sym (pop-some (set words depth v) (depth + 1) (λ z. omega arith)) ∙ ap (λ (i : ℕ). Word (getD (set words depth v) i 0)) n
+    ∙ ap Word (getD-set-same words depth v 0 h)

@@ -1,40 +1,17 @@
 // The bench step: single instructions on a register file that is lent.
 ghost use mathlib.Core.Path.{_≡_};
-ghost use Rattle.state.specs.Bench.{between, registerOp, benchOf};
+ghost use Rattle.state.specs.Bench.{benchOf};
 use super::regs::RegFile;
 use super::regs::Stepped;
 use isa::codec::FirstBad;
 use isa::instr::Instr;
-use isa::opcode::OpCode;
-
-fn is_between(lo: OpCode, hi: OpCode, op: OpCode) -> bool
-    ensures { λ r. ⌜ r ≡ between lo hi op ⌝ }
-{
-    let b = op.byte();
-    if lo.byte() <= b {
-        b <= hi.byte()
-    } else {
-        false
-    }
-}
-
-// Whether an opcode is Mov, Ldi, or one from Add to GtU.
-fn is_register_op(op: OpCode) -> bool
-    ensures { λ r. ⌜ r ≡ registerOp op ⌝ }
-{
-    if is_between(OpCode::Mov, OpCode::Ldi, op) {
-        return true;
-    }
-    is_between(OpCode::Add, OpCode::GtU, op)
-}
 
 // The file after a register operation, or the file as it was and the number of the refusal.
 pub fn bench_by_value(file: RegFile, i: Instr) -> Stepped
     ensures { λ s. ⌜ s ≡ benchOf i file ⌝ }
 {
-    let p = i.parts_of();
-    let op = p.0;
-    if !is_register_op(op) {
+    let op = i.opcode();
+    if !op.is_register_op() {
         return Stepped { file, fault: 50 };
     }
     if let FirstBad::Bad(_) = isa::codec::bad_register(i) {

@@ -7,8 +7,6 @@ use Rattle.tables.specs.declared.check.Checked.{Checked}
 use Rattle.tables.specs.declared.check.Checked.the-variants.{Whole, Bad}
 use Rattle.tables.specs.declared.store.Stored.{Stored}
 use Rattle.tables.specs.declared.store.Stored.the-variants.{Count, NoRoom}
-use Rattle.tables.specs.declared.replies.Replies.{Replies}
-use Rattle.tables.specs.declared.replies.Replies.the-variants.{Rows}
 
 -- a value, or none
 unfoldable pub gotOf : Option ℕ → Got
@@ -24,8 +22,3 @@ checkedNumber Bad = 45
 unfoldable pub storedNumber : Stored → ℕ
 storedNumber (Count n) = 0
 storedNumber NoRoom = 48
-
--- 46 BadReply
-unfoldable pub repliesNumber : Replies → ℕ
-repliesNumber (Rows n) = 0
-repliesNumber Replies.Bad = 46

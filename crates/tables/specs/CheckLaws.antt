@@ -11,11 +11,8 @@ use lib.Dec.{leb}
 use borrow.Author.Tests.{le-leb, leb-true}
 use Rattle.tables.specs.Rows.{Row, Rising}
 use Rattle.tables.specs.Checked.{risingb}
-use Rattle.tables.specs.SortedLaws.{at, rising-at}
-
--- each of the first i keys is below the next
-abbrev pub Adjacent : List Row → ℕ → Type 0
-Adjacent rs i = (p : ℕ) → suc p < i → at rs p < at rs (suc p)
+use Rattle.tables.specs.Walks.{at, Adjacent}
+use Rattle.tables.specs.SortedLaws.{rising-at}
 
 adjacent-rising : (lo : ℕ) (rs : List Row) → Adjacent rs (length rs) → (0 < length rs → lo ≤ at rs 0) → Rising lo rs
 unfolding at
@@ -35,7 +32,7 @@ true-rising lo (r ∷ rs) s = go (true-rising (suc (r .key)) rs) (leb lo (r .key
   where
     go : (risingb (suc (r .key)) rs ≡ true → Rising (suc (r .key)) rs) → (b : Bool) → leb lo (r .key) ≡ b → (lo ≤ r .key) × Rising (suc (r .key)) rs
     go ih true e = (leb-true lo (r .key) e, ih (rw e at s))
-    go ih false e = let s2 : false ≡ true = rw e at s in let z : _≡_ {A = ℕ} 0 1 = cc in absurd (omega arith)
+    go ih false e = let told : false ≡ true = rw e at s in let z : _≡_ {A = ℕ} 0 1 = cc in absurd (omega arith)
 
 not-rising : (rs : List Row) → (Rising 0 rs → ⊥) → risingb 0 rs ≡ false
 not-rising rs h = go (risingb 0 rs) refl

@@ -8,7 +8,7 @@ use lib.ListN.{length, take, drop, getD, length-drop}
 use lib.Seq.{drop-drop, take-append-le, drop-append-le, drop-at}
 use Rattle.words.specs.Bytes.{num}
 use Rattle.tables.specs.Rows.{Row, rowOf, rows}
-use Rattle.tables.specs.SortedLaws.{at}
+use Rattle.tables.specs.Walks.{at}
 
 pub rows-length : (w n : ℕ) (t : List ℕ) → length (rows w n t) ≡ n
 unfolding rows
@@ -36,9 +36,9 @@ row-ends w n i h = omega (arith, mul-le-mul-right w h, suc-mul i w)
 pub rowOf-append : (w : ℕ) (a b : List ℕ) → 32 ≤ w → w ≤ length a → rowOf w (a ++ b) ≡ rowOf w a
 unfolding rowOf
 rowOf-append w a b h k =
-    let h1 : 32 ≤ length a = omega arith in
-    let h2 : w - 32 ≤ length (drop 32 a) = omega (arith, length-drop 32 a) in
-    rw (take-append-le 32 a b h1, drop-append-le 32 a b h1, take-append-le (w - 32) (drop 32 a) b h2)
+    let key : 32 ≤ length a = omega arith in
+    let value : w - 32 ≤ length (drop 32 a) = omega (arith, length-drop 32 a) in
+    rw (take-append-le 32 a b key, drop-append-le 32 a b key, take-append-le (w - 32) (drop 32 a) b value)
 
 -- rows lie in the bytes that they fill
 pub rows-front : (w n : ℕ) (a b : List ℕ) → 32 ≤ w → n * w ≤ length a → rows w n (a ++ b) ≡ rows w n a

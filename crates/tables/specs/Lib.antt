@@ -1,22 +1,20 @@
+-- definitions
 pub mod Order
-pub mod OrderLaws
 pub mod Rows
+pub mod Table
+pub mod Checked
+pub mod Answers
+pub mod Walks
+-- laws
+pub mod OrderLaws
 pub mod SortedLaws
-pub mod RowsTheorems
 pub mod LayoutLaws
 pub mod SearchLaws
 pub mod MoveLaws
-pub mod Table
 pub mod StoreLaws
 pub mod MadeLaws
-pub mod TableTheorems
-pub mod WholeLaws
-pub mod Checked
 pub mod CheckLaws
+-- theorems
+pub mod RowsTheorems
+pub mod TableTheorems
 pub mod CheckTheorems
-pub mod Reply
-pub mod ReplyLaws
-pub mod Replies
-pub mod RepliesLaws
-pub mod RepliesTheorems
-pub mod Answers

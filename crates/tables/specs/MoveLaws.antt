@@ -35,7 +35,8 @@ shift-turn d t i j to by e h k p =
     let q : i + by ≡ suc (j + by) = omega arith in
     let r : to - j ≡ suc (to - i) = omega arith in
     let jd : j < length d = omega arith in
-    ap (λ (l : List ℕ). set l (j + by) (getD t j 0)) (p ∙ ap (λ (m : ℕ). paste d m (drop i d) (to - i)) q ∙ ap (λ (m : ℕ). paste d (suc (j + by)) (drop m d) (to - i)) e)
+    ap (λ (l : List ℕ). set l (j + by) (getD t j 0))
+    (p ∙ ap (λ (m : ℕ). paste d m (drop i d) (to - i)) q ∙ ap (λ (m : ℕ). paste d (suc (j + by)) (drop m d) (to - i)) e)
     ∙ ap (set (paste d (suc (j + by)) (drop (suc j) d) (to - i)) (j + by)) g
     ∙ paste-down d (drop (suc j) d) (j + by) (to - i) (getD d j 0) (omega arith)
     ∙ ap (λ (l : List ℕ). paste d (j + by) l (suc (to - i))) (sym (drop-cons d j 0 jd))

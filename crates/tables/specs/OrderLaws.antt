@@ -13,6 +13,7 @@ use borrow.Author.Tests.{lt-ltb, le-ltb, ltb-true, ltb-false}
 use Rattle.words.specs.Bytes.{num, numFrom, beBytes, Bytes}
 use Rattle.words.specs.BytesTheorems.{bytes-take, bytes-drop, numFrom-append, write-back}
 use Rattle.tables.specs.Order.{orderOf}
+use Rattle.tables.specs.Walks.{Agree}
 use Rattle.tables.specs.declared.order.Order.the-variants.{Less, Equal, Greater}
 
 pub order-less : (a b : ℕ) → a < b → orderOf a b ≡ Less
@@ -91,12 +92,6 @@ front-any (a ∷ xs) (b ∷ ys) x y e ba bb h = go (tri a b) (λ u v l. front-an
     go (same l q) ih = rw l (ih (x * 256 + b) (y * 256 + b) (rw l at h))
     go (above l q) ih = let k = numFrom-less ys xs (x * 256 + b) (x * 256 + a) (omega arith) (λ i. bb (suc i)) (omega (arith, bb 0)) in absurd (omega arith)
 
--- a and b agree in their first i bytes, whose number is the front
-pub record Agree (a b : List ℕ) (i : ℕ) : Type 0 where
-  pub front : ℕ
-  pub left : num a ≡ numFrom front (drop i a)
-  pub right : num b ≡ numFrom front (drop i b)
-
 pub agree-start : (a b : List ℕ) → Agree a b 0
 unfolding num
 agree-start a b = record { front = 0; left = refl; right = refl }
@@ -121,14 +116,16 @@ module _ {a b : List ℕ} {i : ℕ} (g : Agree a b i) (e : length a ≡ length b
 
     pub agree-next : num (take w (drop i a)) ≡ num (take w (drop i b)) → Agree a b (i + w)
     agree-next q =
-        let same : take w (drop i a) ≡ take w (drop i b) = sym (write-back w (drop i a) left-a (bytes-drop i a ba)) ∙ ap (beBytes w) q ∙ write-back w (drop i b) left-b (bytes-drop i b bb) in
+        let same : take w (drop i a) ≡ take w (drop i b) =
+        sym (write-back w (drop i a) left-a (bytes-drop i a ba)) ∙ ap (beBytes w) q ∙ write-back w (drop i b) left-b (bytes-drop i b bb) in
         record { front = numFrom (g .front) (take w (drop i a)); left = split w a (g .left); right = rw same (split w b (g .right)) }
 
     pub agree-less : num (take w (drop i a)) < num (take w (drop i b)) → num a < num b
     unfolding num
     agree-less l =
         let parts : length (take w (drop i a)) ≡ length (take w (drop i b)) = length-take-le w (drop i a) left-a ∙ sym (length-take-le w (drop i b) left-b) in
-        let front = front-any (take w (drop i a)) (take w (drop i b)) 0 (g .front) parts (bytes-take w (drop i a) (bytes-drop i a ba)) (bytes-take w (drop i b) (bytes-drop i b bb)) l in
+        let front = front-any (take w (drop i a)) (take w (drop i b)) 0 (g .front) parts (bytes-take w (drop i a) (bytes-drop i a ba))
+        (bytes-take w (drop i b) (bytes-drop i b bb)) l in
         rw (split w a (g .left), split w b (g .right))
         (numFrom-less (drop (i + w) a) (drop (i + w) b) _ _ (simp (length-drop, e)) (bytes-drop (i + w) a ba) front)
 

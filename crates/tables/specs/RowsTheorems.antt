@@ -62,7 +62,8 @@ unfolding insert lookup isSome
 length-insert x [] = refl
 length-insert x (r ∷ rs) = go (length-insert x rs) (tri (r .key) (x .key))
   where
-    go : length (insert x rs) ≡ length rs + bit (not (isSome (lookup (x .key) rs))) → Tri (r .key) (x .key) → length (insert x (r ∷ rs)) ≡ suc (length rs) + bit (not (isSome (lookup (x .key) (r ∷ rs))))
+    go : length (insert x rs) ≡ length rs + bit (not (isSome (lookup (x .key) rs))) → Tri (r .key) (x .key)
+        → length (insert x (r ∷ rs)) ≡ suc (length rs) + bit (not (isSome (lookup (x .key) (r ∷ rs))))
     go ih (below h e) = rw e (omega arith)
     go ih (same h e) = rw e (omega arith)
     go ih (above h e) = rw e (omega arith)

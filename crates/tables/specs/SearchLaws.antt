@@ -10,22 +10,16 @@ use lib.ListN.{length, take, drop}
 use lib.Seq.{drop-drop}
 use Rattle.words.specs.Bytes.{num}
 use Rattle.tables.specs.Rows.{Row, rowOf, rows, Rising, find, lookup, isSome}
-use Rattle.tables.specs.SortedLaws.{at, rising-at, find-at, find-missing, insert-at, insert-missing}
+use Rattle.tables.specs.Walks.{at, Bracket}
+use Rattle.tables.specs.SortedLaws.{rising-at, find-at, find-missing, insert-at, insert-missing}
 use Rattle.tables.specs.LayoutLaws.{rows-at, rows-length}
 use Rattle.tables.specs.Answers.{gotOf}
 use Rattle.tables.specs.declared.rows.Found.the-variants.{At, Missing}
 use Rattle.tables.specs.declared.rows.Got.the-variants.{Value, Nothing}
 
--- all before lo are below k, and all from hi on above
-pub record Bracket (rs : List Row) (k n lo hi : ℕ) : Type 0 where
-  pub size : length rs ≡ n
-  pub lo-le : lo ≤ hi
-  pub hi-le : hi ≤ n
-  pub under : (p : ℕ) → p < lo → at rs p < k
-  pub over : (p : ℕ) → hi ≤ p → p < n → k < at rs p
-
 pub bracket-start : (rs : List Row) (k n : ℕ) → length rs ≡ n → Bracket rs k n 0 n
-bracket-start rs k n e = record { size = e; lo-le = omega arith; hi-le = omega arith; under = λ p h. absurd (omega arith); over = λ p h l. absurd (omega arith) }
+bracket-start rs k n e =
+    record { size = e; lo-le = omega arith; hi-le = omega arith; under = λ p h. absurd (omega arith); over = λ p h l. absurd (omega arith) }
 
 module _ {rs : List Row} {k n lo hi : ℕ} (s : Rising 0 rs) (b : Bracket rs k n lo hi) (m : ℕ) (l : lo ≤ m) (h : m < hi) where
   pub bracket-up : at rs m < k → Bracket rs k n (m + 1) hi

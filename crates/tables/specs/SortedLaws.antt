@@ -7,12 +7,9 @@ use native.Mathlib.Omega.{arith}
 use lib.ListN.{length, take, drop, getD}
 use Rattle.tables.specs.OrderLaws.{order-less, order-equal, order-greater, Tri, tri, below, same, above}
 use Rattle.tables.specs.Rows.{Row, Rising, onward, find, insert, lookup}
+use Rattle.tables.specs.Walks.{at}
 use Rattle.tables.specs.declared.rows.Found.{Found}
 use Rattle.tables.specs.declared.rows.Found.the-variants.{At, Missing}
-
--- the key of row i
-unfoldable pub at : List Row → ℕ → ℕ
-at rs i = getD rs i (record { key = 0; value = 0 }) .key
 
 pub rising-from : (lo : ℕ) (rs : List Row) (q : ℕ) → Rising lo rs → q < length rs → lo ≤ at rs q
 unfolding at
@@ -69,8 +66,8 @@ insert-missing x (r ∷ rs) i e = go (insert-missing x rs) (tri (r .key) (x .key
         let (j, p, q) = onward-missing (find (x .key) rs) i (rw o at e) in
         let (l, m, n) = ih j q in
         (omega arith, rw o m, rw (o, p, n))
-    go ih (same h o) = let e2 : At 0 ≡ Missing i = rw o at e in let z : _≡_ {A = ℕ} 0 1 = cc in absurd (omega arith)
-    go ih (above h o) = let e2 : Missing 0 ≡ Missing i = rw o at e in let z : i ≡ 0 = cc in (omega arith, rw o, rw (o, z))
+    go ih (same h o) = let told : At 0 ≡ Missing i = rw o at e in let z : _≡_ {A = ℕ} 0 1 = cc in absurd (omega arith)
+    go ih (above h o) = let told : Missing 0 ≡ Missing i = rw o at e in let z : i ≡ 0 = cc in (omega arith, rw o, rw (o, z))
 
 pub insert-at : (x : Row) (rs : List Row) (i : ℕ) (d : Row) → find (x .key) rs ≡ At i
     → (i < length rs) × (lookup (x .key) rs ≡ some (getD rs i d .value)) × (insert x rs ≡ take i rs ++ x ∷ drop (suc i) rs)
@@ -78,12 +75,14 @@ unfolding find insert lookup
 insert-at x [] i d e = let z : _≡_ {A = ℕ} 0 1 = cc in absurd (omega arith)
 insert-at x (r ∷ rs) i d e = go (insert-at x rs) (tri (r .key) (x .key))
   where
-    go : ((j : ℕ) (d : Row) → find (x .key) rs ≡ At j → (j < length rs) × (lookup (x .key) rs ≡ some (getD rs j d .value)) × (insert x rs ≡ take j rs ++ x ∷ drop (suc j) rs))
+    go : ((j : ℕ) (d : Row) → find (x .key) rs ≡ At j →
+        (j < length rs) × (lookup (x .key) rs ≡ some (getD rs j d .value)) × (insert x rs ≡ take j rs ++ x ∷ drop (suc j) rs))
         → Tri (r .key) (x .key)
-        → (i < suc (length rs)) × (lookup (x .key) (r ∷ rs) ≡ some (getD (r ∷ rs) i d .value)) × (insert x (r ∷ rs) ≡ take i (r ∷ rs) ++ x ∷ drop (suc i) (r ∷ rs))
+        → (i < suc (length rs)) × (lookup (x .key) (r ∷ rs) ≡ some (getD (r ∷ rs) i d .value))
+        × (insert x (r ∷ rs) ≡ take i (r ∷ rs) ++ x ∷ drop (suc i) (r ∷ rs))
     go ih (below h o) =
         let (j, p, q) = onward-at (find (x .key) rs) i (rw o at e) in
         let (l, m, n) = ih j d q in
         (omega arith, rw (o, p) m, rw (o, p, n))
-    go ih (same h o) = let e2 : At 0 ≡ At i = rw o at e in let z : i ≡ 0 = cc in (omega arith, rw (o, z), rw (o, z))
-    go ih (above h o) = let e2 : Missing 0 ≡ At i = rw o at e in let z : _≡_ {A = ℕ} 0 1 = cc in absurd (omega arith)
+    go ih (same h o) = let told : At 0 ≡ At i = rw o at e in let z : i ≡ 0 = cc in (omega arith, rw (o, z), rw (o, z))
+    go ih (above h o) = let told : Missing 0 ≡ At i = rw o at e in let z : _≡_ {A = ℕ} 0 1 = cc in absurd (omega arith)

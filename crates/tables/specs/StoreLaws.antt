@@ -23,12 +23,15 @@ drop-beyond a b u t h e =
     sym (ap (λ (k : ℕ). drop k u) q) ∙ sym (drop-drop (b - a) a u) ∙ ap (drop (b - a)) e ∙ drop-drop (b - a) a t ∙ ap (λ (k : ℕ). drop k t) q
 
 -- the rows before i, x, and the rows from j on
-rows-around : (w n i j : ℕ) (t : List ℕ) (x : Row) → i ≤ n → j ≤ n → take i (rows w n t) ++ x ∷ drop j (rows w n t) ≡ rows w i t ++ x ∷ rows w (n - j) (drop (j * w) t)
+rows-around : (w n i j : ℕ) (t : List ℕ) (x : Row) → i ≤ n → j ≤ n
+    → take i (rows w n t) ++ x ∷ drop j (rows w n t) ≡ rows w i t ++ x ∷ rows w (n - j) (drop (j * w) t)
 rows-around w n i j t x h k =
     let a : n ≡ i + (n - i) = omega arith in
     let b : n ≡ j + (n - j) = omega arith in
-    let front : take i (rows w n t) ≡ rows w i t = ap (λ (m : ℕ). take i (rows w m t)) a ∙ ap (take i) (rows-split w i (n - i) t) ∙ take-at (rows w i t) _ i (rows-length w i t) in
-    let back : drop j (rows w n t) ≡ rows w (n - j) (drop (j * w) t) = ap (λ (m : ℕ). drop j (rows w m t)) b ∙ ap (drop j) (rows-split w j (n - j) t) ∙ drop-at (rows w j t) _ j (rows-length w j t) in
+    let front : take i (rows w n t) ≡ rows w i t =
+    ap (λ (m : ℕ). take i (rows w m t)) a ∙ ap (take i) (rows-split w i (n - i) t) ∙ take-at (rows w i t) _ i (rows-length w i t) in
+    let back : drop j (rows w n t) ≡ rows w (n - j) (drop (j * w) t) =
+    ap (λ (m : ℕ). drop j (rows w m t)) b ∙ ap (drop j) (rows-split w j (n - j) t) ∙ drop-at (rows w j t) _ j (rows-length w j t) in
     λ k. front k ++ x ∷ back k
 
 -- rows are those of the bytes that they fill
@@ -63,11 +66,13 @@ drop-paste-at at k t s l = ap (drop at) (append-assoc (take at t) (take k s) (dr
 rows-below : (w i at k : ℕ) (t s : List ℕ) → 32 ≤ w → i * w ≤ at → at + k ≤ length t → k ≤ length s → rows w i (paste t at s k) ≡ rows w i t
 rows-below w i at k t s h l j g =
     let e : length (paste t at s k) ≡ length t = length-paste t at s k j g in
-    sym (rows-cut w i (i * w) (paste t at s k) h (omega arith) (omega arith)) ∙ ap (rows w i) (take-paste-le (i * w) at k t s l (omega arith)) ∙ rows-cut w i (i * w) t h (omega arith) (omega arith)
+    sym (rows-cut w i (i * w) (paste t at s k) h (omega arith) (omega arith)) ∙ ap (rows w i) (take-paste-le (i * w) at k t s l (omega arith))
+    ∙ rows-cut w i (i * w) t h (omega arith) (omega arith)
 
 rows-moved : (w m at k : ℕ) (t s : List ℕ) → 32 ≤ w → m * w ≡ k → at ≤ length t → k ≤ length s → rows w m (drop at (paste t at s k)) ≡ rows w m s
 rows-moved w m at k t s h e l g =
-    ap (rows w m) (drop-paste-at at k t s l) ∙ rows-front w m (take k s) (drop (at + k) t) h (omega (arith, length-take-le k s g)) ∙ rows-cut w m k s h (omega arith) g
+    ap (rows w m) (drop-paste-at at k t s l) ∙ rows-front w m (take k s) (drop (at + k) t) h (omega (arith, length-take-le k s g))
+    ∙ rows-cut w m k s h (omega arith) g
 
 module _ (w n i : ℕ) (t row : List ℕ) (tb : Table w n t) (lw : length row ≡ w) where
   abbrev x : Row
@@ -90,7 +95,8 @@ module _ (w n i : ℕ) (t row : List ℕ) (tb : Table w n t) (lw : length row �
       (λ k. rows w (nm k) (p k)) ∙ row-pasted w i m t row (tb .wide) lw (omega (arith, tb .fits))
       ∙ (λ k. rows w i t ++ x ∷ rows w m (drop (sym (suc-mul i w) k) t)) ∙ sym (rows-around w n i (suc i) t x (omega arith) (omega arith)) ∙ sym e in
       let d : drop (n * w) u ≡ drop (n * w) t =
-      ap (drop (n * w)) p ∙ drop-beyond (i * w + w) (n * w) (paste t (i * w) row w) t fit (drop-paste t (i * w) row w (omega (arith, tb .fits)) (omega arith)) in
+      ap (drop (n * w)) p ∙ drop-beyond (i * w + w) (n * w) (paste t (i * w) row w) t fit
+      (drop-paste t (i * w) row w (omega (arith, tb .fits)) (omega arith)) in
       record { answer = rw (size, le-leb (n * w) (length t) (tb .fits)); bytes = (r, d) }
 
   -- a row with a new key
@@ -126,8 +132,11 @@ module _ (w n i : ℕ) (t row : List ℕ) (tb : Table w n t) (lw : length row �
           let k : ℕ = n * w - i * w in
           let o : List ℕ = drop (i * w) t in
           let m : n + 1 ≡ i + suc (n - i) = omega (arith, place) in
-          let a : rows w i v ≡ rows w i t = ap (rows w i) p ∙ rows-below w i at k t o (tb .wide) (omega arith) (omega (arith, whole)) (omega (arith, whole, left)) in
-          let b : rows w (n - i) (drop at v) ≡ rows w (n - i) o = ap (λ (z : List ℕ). rows w (n - i) (drop at z)) p ∙ rows-moved w (n - i) at k t o (tb .wide) (omega (arith, whole)) (omega (arith, whole)) (omega (arith, whole, left)) in
+          let a : rows w i v ≡ rows w i t =
+          ap (rows w i) p ∙ rows-below w i at k t o (tb .wide) (omega arith) (omega (arith, whole)) (omega (arith, whole, left)) in
+          let b : rows w (n - i) (drop at v) ≡ rows w (n - i) o =
+          ap (λ (z : List ℕ). rows w (n - i) (drop at z)) p
+          ∙ rows-moved w (n - i) at k t o (tb .wide) (omega (arith, whole)) (omega (arith, whole)) (omega (arith, whole, left)) in
           (λ j. rows w (m j) (q j)) ∙ row-pasted w i (n - i) v row (tb .wide) lw (omega (arith, whole, same-length))
           ∙ (λ j. a j ++ x ∷ b j) ∙ sym (rows-around w n i i t x place place) ∙ sym (insert-missing x rs i h .2)
 
@@ -137,7 +146,8 @@ module _ (w n i : ℕ) (t row : List ℕ) (tb : Table w n t) (lw : length row �
           let k : ℕ = n * w - i * w in
           let e : at + k ≡ (n + 1) * w = omega (arith, whole, next) in
           ap (drop ((n + 1) * w)) q
-          ∙ drop-beyond at ((n + 1) * w) (paste v (i * w) row w) v (omega (arith, e)) (drop-paste v (i * w) row w (omega (arith, whole, same-length)) (omega arith))
+          ∙ drop-beyond at ((n + 1) * w) (paste v (i * w) row w) v (omega (arith, e))
+          (drop-paste v (i * w) row w (omega (arith, whole, same-length)) (omega arith))
           ∙ ap (drop ((n + 1) * w)) p ∙ rw (← e) (drop-paste t at (drop (i * w) t) k (omega (arith, whole)) (omega (arith, whole, left)))
 
       pub put-new : Inserted w n x t u (Count (n + 1))

@@ -15,6 +15,10 @@ pub record Table (w n : ℕ) (t : List ℕ) : Type 0 where
   pub fits : n * w ≤ length t
   pub rising : Rising 0 (rows w n t)
 
+-- t is n whole rows of w bytes with keys strictly rising
+abbrev pub WholeTable : ℕ → ℕ → List ℕ → Type 0
+WholeTable w n t = (length t ≡ n * w) × Rising 0 (rows w n t)
+
 -- what t becomes: the rows rs and the bytes after them as they were, or t itself
 abbrev pub After : Stored → ℕ → List Row → List ℕ → List ℕ → Type 0
 After (Count m) w rs t u = (rows w m u ≡ rs) × (drop (m * w) u ≡ drop (m * w) t)

@@ -42,11 +42,13 @@ held-bytes w (suc n) t b h l =
     let k : List ℕ = beBytes 32 (rowOf w t .key) in
     let v : List ℕ = beBytes (w - 32) (rowOf w t .value) in
     let rest : List ℕ = bytesOf w (rows w n (drop w t)) in
-    append-assoc k (v ++ rest) (drop (suc n * w) t) ∙ ap (λ (a : List ℕ). k ++ a) (append-assoc v rest (drop (suc n * w) t) ∙ (λ i. v ++ (rest ++ j i)) ∙ ap (λ (a : List ℕ). v ++ a) ih)
+    append-assoc k (v ++ rest) (drop (suc n * w) t)
+    ∙ ap (λ (a : List ℕ). k ++ a) (append-assoc v rest (drop (suc n * w) t) ∙ (λ i. v ++ (rest ++ j i)) ∙ ap (λ (a : List ℕ). v ++ a) ih)
     ∙ row-bytes w t b h (omega arith)
 
 -- rows and rest fix the bytes
-pub same-bytes : (w n : ℕ) (t u : List ℕ) → 32 ≤ w → n * w ≤ length t → n * w ≤ length u → Bytes t → Bytes u → rows w n t ≡ rows w n u → drop (n * w) t ≡ drop (n * w) u → t ≡ u
+pub same-bytes : (w n : ℕ) (t u : List ℕ) → 32 ≤ w → n * w ≤ length t → n * w ≤ length u → Bytes t → Bytes u → rows w n t ≡ rows w n u
+    → drop (n * w) t ≡ drop (n * w) u → t ≡ u
 same-bytes w n t u h lt lu bt bu r d = sym (held-bytes w n t bt h lt) ∙ (λ i. bytesOf w (r i) ++ d i) ∙ held-bytes w n u bu h lu
 
 -- the answer that a contract allows is one of two, with its bytes
@@ -83,7 +85,8 @@ past-rows w n x t u r i = go (case w (insert x (rows w n t)) t u r (i .answer) (
   where
     go : Case w (insert x (rows w n t)) t u r → drop (suc n * w) u ≡ drop (suc n * w) t
     go (fitted l q e d) =
-        let m : length (insert x (rows w n t)) ≤ suc n = omega (arith, length-insert x (rows w n t), rows-length w n t, bit-small (not (isSome (lookup (x .key) (rows w n t))))) in
+        let m : length (insert x (rows w n t)) ≤ suc n =
+        omega (arith, length-insert x (rows w n t), rows-length w n t, bit-small (not (isSome (lookup (x .key) (rows w n t))))) in
         drop-beyond (length (insert x (rows w n t)) * w) (suc n * w) u t (mul-le-mul-right w m) d
     go (refused q e) = ap (drop (suc n * w)) e
 

@@ -3,7 +3,7 @@ ghost use mathlib.Core.Path.{_≡_};
 ghost use Prim.Native.Nat.{_*_, _≤_};
 ghost use lib.ListN.{length};
 ghost use Rattle.tables.specs.Rows.{rows};
-ghost use Rattle.tables.specs.Checked.{risingb, checkedOf};
+ghost use Rattle.tables.specs.Checked.{risingb, checkedOf, checkedIf};
 use crate::order::Order;
 
 pub enum Checked {
@@ -45,4 +45,15 @@ pub fn check(t: &[u8], w: usize) -> Checked
         return Checked::Bad;
     }
     Checked::Bad
+}
+
+// The same of a table that may be absent: then it has no rows, and its bytes are not looked at.
+pub fn check_if(present: bool, t: &[u8], w: usize) -> Checked
+    requires { ⌜ 32 ≤ w ⌝ }
+    ensures { λ r. ⌜ r ≡ checkedIf present w (now (t .entry)) ⌝ }
+{
+    if present {
+        return check(t, w);
+    }
+    Checked::Whole(0)
 }

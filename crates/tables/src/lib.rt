@@ -1,7 +1,5 @@
-// Sorted rows in lent bytes, and rows of replies.
+// Sorted rows in lent bytes.
 pub mod check;
 pub mod order;
-pub mod replies;
-pub mod reply;
 pub mod rows;
 pub mod store;

@@ -38,7 +38,8 @@ count-most (suc l) n = by (ltb n 10) (count-most l (n / 10))
     by false h = omega arith
 
 -- a turn of the writing, the last digit first
-pub put-turn : (d : List ℕ) (at i j x : ℕ) → i ≡ suc j → at + i ≤ length d → paste d at (lastDigits i x) i ≡ paste (set d (at + j) (48 + x % 10)) at (lastDigits j (x / 10)) j
+pub put-turn : (d : List ℕ) (at i j x : ℕ) → i ≡ suc j → at + i ≤ length d →
+    paste d at (lastDigits i x) i ≡ paste (set d (at + j) (48 + x % 10)) at (lastDigits j (x / 10)) j
 unfolding lastDigits
 put-turn d at i j x e h =
     ap (λ (k : ℕ). paste d at (lastDigits k x) k) e ∙ last-first d (lastDigits j (x / 10)) at j (48 + x % 10) (length-digits j (x / 10)) (omega (arith, e, h))

@@ -1,6 +1,6 @@
--- Numbers and fields laid down. Assumes nothing.
+-- Numbers and fields laid down, and a piece behind others. Assumes nothing.
 use mathlib.Core.Path.{_≡_, sym, ap, _∙_}
-use mathlib.Core.List.{List}
+use mathlib.Core.List.{List, _++_}
 use Prim.Native.Nat.{ℕ, _+_, _≤_}
 use native.Mathlib.Omega.{arith}
 use lib.ListN.{length, length-append}
@@ -31,6 +31,11 @@ pub field-room : (d u name : List ℕ) (at n r : ℕ) → Laid d at (fieldOf nam
 field-room d u name at n r x = omega (arith, x .end, length-field name n)
 
 -- a name and then its number are the field
-pub laid-field : (d u v name : List ℕ) (at r s n : ℕ) → at + length name + 20 ≤ length d → Laid d at name u r → Laid u r (decimalOf n) v s → Laid d at (fieldOf name n) v s
+pub laid-field : (d u v name : List ℕ) (at r s n : ℕ) → at + length name + 20 ≤ length d →
+    Laid d at name u r → Laid u r (decimalOf n) v s → Laid d at (fieldOf name n) v s
 unfolding fieldOf
 laid-field d u v name at r s n h x y = laid-then d name (decimalOf n) u v at r s (omega (arith, length-decimal n)) x y
+
+-- a piece behind others, where the last one ends within the bytes
+pub laid-next : {d a b u v : List ℕ} {at r s : ℕ} → s ≤ length d → Laid d at a u r → Laid u r b v s → Laid d at (a ++ b) v s
+laid-next {d} {a} {b} {u} {v} {at} {r} {s} h x y = laid-then d a b u v at r s (omega (arith, x .end, y .end)) x y

@@ -1,3 +1,9 @@
+pub mod Ascii
 pub mod Decimal
 pub mod DecimalLaws
 pub mod LaidLaws
+pub mod Hex
+pub mod HexLaws
+pub mod Number
+pub mod NumberLaws
+pub mod CaseTheorems

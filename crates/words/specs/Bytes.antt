@@ -1,7 +1,7 @@
 -- Numbers as bytes, the highest first (document 01, Codec: numbers everywhere are big-endian).
 use mathlib.Core.List.{List, [], _∷_, _++_}
 use Prim.Native.Nat.{ℕ, zero, suc, _+_, _*_, _/_, _%_, _<_}
-use lib.ListN.{getD, take, drop}
+use lib.ListN.{length, getD, take, drop}
 
 -- the number that bytes write after those of a number
 unfoldable pub numFrom : ℕ → List ℕ → ℕ
@@ -26,3 +26,7 @@ Bytes s = (k : ℕ) → getD s k 0 < 256
 unfoldable pub wordsOf : ℕ → List ℕ → List ℕ
 wordsOf zero s = []
 wordsOf (suc n) s = num (take 8 s) ∷ wordsOf n (drop 8 s)
+
+-- the whole words in bytes
+abbrev pub wordsIn : List ℕ → List ℕ
+wordsIn s = wordsOf (length s / 8) s

@@ -6,8 +6,6 @@ use super::descend::Divided;
 use super::descend::descend;
 use super::product::HALF;
 use super::product::Wide;
-use super::product::product;
-use super::product::product_plus;
 
 // Quotient and remainder of one word each.
 struct Short {
@@ -32,18 +30,37 @@ fn digit(rest: u64, next: u64, v: u64) -> Short
     }
 }
 
-// Two words by one, with a quotient of one word. A factor m, which leaves the quotient as it is,
-// brings v to the upper half of a word's range, where the digits' estimates are close.
+// Two words by one of more than a half word, with a quotient of one word. The digits' estimates are close where v is in the
+// upper half of a word's range.
+fn by_large(hi: u64, lo: u64, v: u64) -> u64
+    requires { ⌜ (2 ^ 32 ≤ v) × (hi < v) ⌝ }
+    ensures { λ r. ⌜ r ≡ (hi * 2 ^ 64 + lo) / v ⌝ }
+{
+    let a = digit(hi, lo / HALF, v);
+    let b = digit(a.r, lo % HALF, v);
+    a.q * HALF + b.q
+}
+
+// x * 2^s.
+fn shifted(x: u64, s: u64) -> Wide
+    requires { ⌜ s < 64 ⌝ }
+    ensures { λ r. ⌜ wide r ≡ x * 2 ^ s ⌝ }
+{
+    Wide {
+        hi: (x >> 1) >> (63 - s),
+        lo: x << s,
+    }
+}
+
+// Two words by one, with a quotient of one word. A power of two, which leaves the quotient as it is, brings v to the upper half
+// of a word's range.
 pub fn two_by_one(hi: u64, lo: u64, v: u64) -> u64
     requires { ⌜ hi < v ⌝ }
     ensures { λ r. ⌜ r ≡ (hi * 2 ^ 64 + lo) / v ⌝ }
 {
-    let m = u64::MAX / v;
-    let w = v * m;
-    let p = product(lo, m);
-    let a = digit(hi * m + p.hi, p.lo / HALF, w);
-    let b = digit(a.r, p.lo % HALF, w);
-    a.q * HALF + b.q
+    let s = u64::leading_zeros(v) as u64;
+    let p = shifted(lo, s);
+    by_large((hi << s) + p.hi, p.lo, v << s)
 }
 
 // A divisor of one word: the quotient's upper word, then its lower.
@@ -61,24 +78,28 @@ fn by_word(n: Wide, d: u64) -> Divided
     Divided { q, r }
 }
 
-// The upper two of the three words of n * m.
-fn upper(n: Wide, m: u64) -> Wide
-    ensures { λ r. ⌜ wide r ≡ wide n * m / 2 ^ 64 ⌝ }
+// The upper two of the three words of n * 2^s.
+fn upper(n: Wide, s: u64) -> Wide
+    requires { ⌜ s < 64 ⌝ }
+    ensures { λ r. ⌜ wide r ≡ wide n * 2 ^ s / 2 ^ 64 ⌝ }
 {
-    let p = product(n.lo, m);
-    product_plus(n.hi, m, p.hi)
+    let p = shifted(n.lo, s);
+    let q = shifted(n.hi, s);
+    Wide {
+        hi: q.hi,
+        lo: q.lo + p.hi,
+    }
 }
 
-// A divisor of two words. A factor m, at most 2^64 / (d.hi + 1), brings it near the top of three
-// words, and the upper words of n * m and d * m give the estimate.
+// A divisor of two words. A power of two brings it to the top of three words, and the upper words of both give the estimate.
 fn by_wide(n: Wide, d: Wide) -> Divided
     requires { ⌜ 0 < d .hi ⌝ }
     ensures { λ r. ⌜ Divides (wide n) (wide d) (wide (r .q)) (wide (r .r)) ⌝ }
 {
-    let m = 0x8000_0000_0000_0000 / (d.hi / 2 + 1);
-    let v = upper(d, m);
-    let u = upper(n, m);
-    descend(n, d, two_by_one(u.hi, u.lo, v.lo))
+    let s = u64::leading_zeros(d.hi) as u64;
+    let v = upper(d, s);
+    let u = upper(n, s);
+    descend(n, d, by_large(u.hi, u.lo, v.lo))
 }
 
 // Quotient and remainder, for every divisor but 0.

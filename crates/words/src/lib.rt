@@ -1,5 +1,7 @@
-// Numbers as bytes, and numbers of two words.
+// Numbers as bytes, numbers of two words, and refusals in numbers.
 pub mod bytes;
 pub mod descend;
 pub mod divide;
+pub mod laid;
 pub mod product;
+pub mod refusal;

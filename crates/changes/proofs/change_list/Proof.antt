@@ -8,119 +8,109 @@ use borrow.Author.Needs.{needs}
 use borrow.Author.Tests.{not-true, not-false}
 use Rattle.tables.specs.Rows.{rows}
 use Rattle.tables.specs.Checked.{checkedOf}
-use Rattle.tables.specs.CheckTheorems.{whole-table}
+use Rattle.tables.specs.CheckTheorems.{whole-table, table-if}
 use Rattle.tables.specs.declared.check.Checked.the-variants.{Whole}
-use Rattle.changes.specs.ChangeList.{Lent, storedOf, listOf}
-use Rattle.changes.specs.AnswerLaws.{Loader, ends-bad, ends-as, stored-past, stored-by, loader-table, loader-rows, loader-bad, no-changes, no-store, no-loader, listed}
+use Rattle.changes.specs.ChangeList.{Lent, lent, storedOf, listOf}
+use Rattle.changes.specs.AnswerLaws.{Loader, loader-rows, loader-bad, no-changes, no-store, no-loader, listed}
+use Rattle.changes.specs.AnswerLaws.{ends-bad, ends-as, stored-past, stored-by}
 use Rattle.changes.proofs.change_list.Statement.{statement}
 use Rattle.changes.proofs.change_list.Tie as tie
 
 -- what is lent
-abbrev L : tie.Start → Lent
-L s = record { changes = s .args .changes .now; count = s .args .count; store = s .args .store .now; present = s .args .present; loader = s .args .loader .now }
+abbrev given : tie.Start → Lent
+given start =
+    let a = start .args in
+    lent (a .changes .now) (a .count) (a .store .now) (a .present) (a .loader .now)
 
--- the counted rows stand and rise
-abbrev S : tie.Else2 → tie.Start
-S c = c .before .before .before .before .before .before .before
+-- past both tests the counted rows stand and rise
+abbrev lentAt : tie.Else2 → Lent
+lentAt risen = given (risen .before .before .before .before .before .before .before)
 
-stood : (c : tie.Else2) → storedOf (L (S c) .changes) (L (S c) .count) ≡ some (rows 40 (L (S c) .count) (L (S c) .changes))
-stood c = stored-by (L (S c) .changes) (L (S c) .count) true (c .before .before .if1 .left) (sym (not-false _ (c .if2 .left)) ∙ c .before .rising .ensures)
+stood : (risen : tie.Else2) → let l = lentAt risen in storedOf (l .changes) (l .count) ≡ some (rows 40 (l .count) (l .changes))
+stood risen =
+    let l = lentAt risen in
+    let rises = sym (not-false _ (risen .if2 .left)) ∙ risen .before .rising .ensures in
+    stored-by (l .changes) (l .count) true (risen .before .before .if1 .left) rises
 
 -- the store is whole
 abbrev risen : tie.After-known-told → tie.Else2
-risen c = c .before .before .before .before
+risen whole = whole .before .before .before .before
 
 abbrev ns : tie.After-known-told → ℕ
-ns c = c .before .s .given .0 .0
+ns whole = whole .before .s .given .0 .0
 
-store-whole : (c : tie.After-known-told) → checkedOf 40 (L (S (risen c)) .store) ≡ Whole (ns c)
-store-whole c = sym (c .before .before .before .check .ensures) ∙ c .before .s .given .1
+store-whole : (whole : tie.After-known-told) → checkedOf 40 (lentAt (risen whole) .store) ≡ Whole (ns whole)
+store-whole whole = sym (whole .before .before .before .check .ensures) ∙ whole .before .s .given .1
 
 -- the loader is whole, or absent
-abbrev stored : tie.After-known-told2 → tie.After-known-told
-stored c = c .before .before .before .before
+abbrev whole : tie.After-known-told2 → tie.After-known-told
+whole both = both .before .before .before .before
 
 abbrev nl : tie.After-known-told2 → ℕ
-nl c = c .before .l .given .0 .0
+nl both = both .before .l .given .0 .0
 
-loader-whole : (c : tie.After-known-told2) → let l = L (S (risen (stored c))) in Loader (l .present) (l .loader) (nl c)
-loader-whole c = sym (c .before .before .before .loader-check .ensures) ∙ c .before .l .given .1
+loader-whole : (both : tie.After-known-told2) → let l = lentAt (risen (whole both)) in Loader (l .present) (l .loader) (nl both)
+loader-whole both = sym (both .before .before .before .check-if .ensures) ∙ both .before .l .given .1
 
 returns : tie.Need-returns
-returns c = let l = L (c .before .before .before .before .before) in ends-bad (listOf l) _ (no-changes l (stored-past (l .changes) (l .count) (c .if1 .taken)))
-
-rising-requires : tie.Need-rising-requires
-rising-requires c κs = search needs
+returns c =
+    let l = given (c .before .before .before .before .before) in
+    ends-bad (listOf l) _ (no-changes l (stored-past (l .changes) (l .count) (c .if1 .taken)))
 
 returns-2 : tie.Need-returns-2
 returns-2 c =
-    let d = c .before .before in
-    let l = L (d .before .before .before .before .before) in
-    ends-bad (listOf l) _ (no-changes l (stored-by (l .changes) (l .count) false (d .if1 .left) (sym (not-true _ (c .if2 .taken)) ∙ c .before .rising .ensures)))
-
-check-requires : tie.Need-check-requires
-check-requires c κs = search needs
-
-enum-told : tie.Need-enum-told
-enum-told c = search needs
-
-enum-known-s : tie.Need-enum-known-s
-enum-known-s c = search needs
-
-loader-check-requires : tie.Need-loader-check-requires
-loader-check-requires c κs = search needs
-
-enum-told-2 : tie.Need-enum-told-2
-enum-told-2 c = search needs
-
-enum-known-l : tie.Need-enum-known-l
-enum-known-l c = search needs
+    let stand = c .before .before in
+    let l = given (stand .before .before .before .before .before) in
+    let falls = sym (not-true _ (c .if2 .taken)) ∙ c .before .rising .ensures in
+    ends-bad (listOf l) _ (no-changes l (stored-by (l .changes) (l .count) false (stand .if1 .left) falls))
 
 list-requires : tie.Need-list-requires
 list-requires c κs =
-    let m = c .before in
-    let k = stored m in
-    let l = L (S (risen k)) in
-    (whole-table 40 (l .store) (omega arith) (ns k) (store-whole k), loader-table (l .present) (l .loader) (nl m) (loader-whole m), omega (arith, risen k .before .before .if1 .left))
+    let both = c .before in
+    let store = whole both in
+    let l = lentAt (risen store) in (
+      whole-table 40 (l .store) (omega arith) (ns store) (store-whole store),
+      table-if 40 (l .loader) (omega arith) (l .present) (nl both) (loader-whole both),
+      omega (arith, risen store .before .before .if1 .left),
+    )
 
 returns-3 : tie.Need-returns-3
 returns-3 c =
-    let e = c .before .before .before in
-    let l = L (S e) in
-    ends-bad (listOf l) _ (no-store l _ (stood e) (sym (c .before .before .check .ensures) ∙ c .enum-told .given .1))
+    let rows-risen = c .before .before .before in
+    let l = lentAt rows-risen in
+    ends-bad (listOf l) _ (no-store l _ (stood rows-risen) (sym (c .before .before .check .ensures) ∙ c .enum-told .given .1))
 
 returns-4 : tie.Need-returns-4
 returns-4 c =
-    let k = c .before .before .before in
-    let l = L (S (risen k)) in
-    ends-bad (listOf l) _ (no-loader l _ (stood (risen k)) (ns k) (store-whole k) (loader-bad (l .present) (l .loader) (sym (c .before .before .loader-check .ensures) ∙ c .enum-told2 .given .1)))
-
-same-length : tie.Need-same-length
-same-length c = search needs
+    let store = c .before .before .before in
+    let l = lentAt (risen store) in
+    let bad = loader-bad (l .present) (l .loader) (sym (c .before .before .check-if .ensures) ∙ c .enum-told2 .given .1) in
+    ends-bad (listOf l) _ (no-loader l _ (stood (risen store)) (ns store) (store-whole store) bad)
 
 returns-5 : tie.Need-returns-5
 returns-5 c =
-    let p = c .before .before in
-    let m = p .before .before in
-    let k = stored m in
-    let l = L (S (risen k)) in
-    ends-as (listOf l) _ _ _ _ (listed l _ (stood (risen k)) (ns k) (store-whole k) _ (loader-rows (l .present) (l .loader) (nl m) (loader-whole m))) (p .list .ensures)
+    let done = c .before .before in
+    let both = done .before .before in
+    let store = whole both in
+    let l = lentAt (risen store) in
+    let rows-of-loader = loader-rows (l .present) (l .loader) (nl both) (loader-whole both) in
+    ends-as (listOf l) _ _ _ _ (listed l _ (stood (risen store)) (ns store) (store-whole store) _ rows-of-loader) (done .list .ensures)
 
 pub change-list-spec : {M : Type 1} → statement M
 change-list-spec =
     tie.close
     (tie.spec
     returns
-    rising-requires
+    (λ c κs. search needs)
     returns-2
-    check-requires
-    enum-told
-    enum-known-s
-    loader-check-requires
-    enum-told-2
-    enum-known-l
+    (λ c κs. search needs)
+    (λ c. search needs)
+    (λ c. search needs)
+    (λ c κs. search needs)
+    (λ c. search needs)
+    (λ c. search needs)
     list-requires
     returns-3
     returns-4
-    same-length
+    (λ c. search needs)
     returns-5)

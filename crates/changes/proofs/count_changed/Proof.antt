@@ -1,19 +1,21 @@
 -- `changes::count_changed` meets its contract: k changed among the first i rows, and what is left decides. Assumes nothing.
 use mathlib.Core.Path.{_≡_, refl, sym, ap, _∙_}
-use mathlib.Core.Bool.{true, false}
+use mathlib.Core.Bool.{Bool, true, false}
+use mathlib.Core.List.{List, _∷_}
 use Prim.Native.Nat.{_+_, _≤_, _-_}
 use native.Mathlib.Omega.{arith}
 use lib.ListN.{length}
-use mathlib.Core.List.{List}
-use Rattle.tables.specs.Rows.{Row, rows}
-use Rattle.changes.specs.ChangeList.{changed}
-use Rattle.changes.specs.LeftLaws.{part-length, left, left-all, left-none, left-by}
+use Rattle.words.specs.Choice.{pick}
+use Rattle.tables.specs.Rows.{Row, rowOf, rows}
+use Rattle.changes.specs.Changed.{changedIn}
+use Rattle.changes.specs.LeftLaws.{part, part-length, left, left-all, left-none, left-by}
 use Rattle.changes.proofs.count_changed.Statement.{statement}
 use Rattle.changes.proofs.count_changed.Tie as tie
 
 abbrev Inv-loop : tie.InvT-loop
 Inv-loop changes n store ns loader nl k₀ i₀ k i =
-    (k ≤ i) × (length (changed (rows 40 ns store) (rows 40 nl loader) (rows 40 n changes)) ≡ k + length (left (rows 40 ns store) (rows 40 nl loader) changes n i))
+    (k ≤ i) ×
+    (length (changedIn changes n store ns loader nl) ≡ k + length (left (rows 40 ns store) (rows 40 nl loader) changes n i))
 
 abbrev μ-loop : tie.MeasureT-loop
 μ-loop changes n store ns loader nl k₀ i₀ k i = n - i
@@ -30,58 +32,45 @@ loop-holds c =
     let s = c .before .before .before in
     (omega arith, omega (arith, ap length (left-all (ss s) (ls s) (s .args .changes .now) (s .args .n) 0 refl)))
 
-mul-at : tie.Need-mul-at Inv-loop μ-loop
-mul-at c = omega arith
-
-add-end : tie.Need-add-end Inv-loop μ-loop
-add-end c = omega arith
-
-sub-unchanged : tie.Need-sub-unchanged Inv-loop μ-loop
-sub-unchanged c = omega arith
-
-part-unchanged-start : tie.Need-part-unchanged-start Inv-loop μ-loop
-part-unchanged-start c = omega arith
-
-part-unchanged-end : tie.Need-part-unchanged-end Inv-loop μ-loop
-part-unchanged-end c = omega arith
+abbrev start : tie.At-loop Inv-loop μ-loop → tie.Start Inv-loop μ-loop
+start turn = turn .before .before .before .before
 
 unchanged-requires : tie.Need-unchanged-requires Inv-loop μ-loop
 unchanged-requires c κs =
-    let l = c .before .before in
-    let s = l .before .before .before .before in
-    (s .pre .0, s .pre .1, part-length (s .args .changes .now) (s .args .n) (l .loop .i) (c .before .loop-test .taken) (s .pre .2))
+    let turn = c .before .before in
+    let s = start turn in
+    (s .pre .0, s .pre .1, part-length (s .args .changes .now) (s .args .n) (turn .loop .i) (c .before .loop-test .taken) (s .pre .2))
 
-loop-less : tie.Need-loop-less Inv-loop μ-loop
-loop-less c = omega arith
-
-add-i : tie.Need-add-i Inv-loop μ-loop
-add-i c = omega arith
+-- what is left goes by whether row i kept its value
+left-after : (asked : tie.After-unchanged Inv-loop μ-loop) (b : Bool) → b ≡ asked .unchanged .result →
+    let turn = asked .before .before .before in
+    let s = start turn in
+    let t = s .args .changes .now in
+    let rest = left (ss s) (ls s) t (s .args .n) (turn .loop .i + 1) in
+    left (ss s) (ls s) t (s .args .n) (turn .loop .i) ≡ pick b rest (rowOf 40 (part t (turn .loop .i)) ∷ rest)
+left-after asked b e =
+    let test = asked .before .before in
+    let turn = test .before in
+    let s = start turn in
+    left-by (ss s) (ls s) (s .args .changes .now) (s .args .n) (turn .loop .i) (test .loop-test .taken) (s .pre .2) b
+    (e ∙ asked .unchanged .ensures)
 
 loop-again : tie.Need-loop-again Inv-loop μ-loop
 loop-again c =
-    let t = c .before .before .before in
-    let l = t .before in
-    let s = l .before .before .before .before in
-    (omega arith, omega (arith, l .loop .inv .1, ap length (left-by (ss s) (ls s) (s .args .changes .now) (s .args .n) (l .loop .i) (t .loop-test .taken) (s .pre .2) true (sym (c .if1 .taken) ∙ c .before .unchanged .ensures))))
-
-add-k : tie.Need-add-k Inv-loop μ-loop
-add-k c = omega arith
-
-loop-less-2 : tie.Need-loop-less-2 Inv-loop μ-loop
-loop-less-2 c = omega arith
+    let turn = c .before .before .before .before in
+    (omega arith, omega (arith, turn .loop .inv .1, ap length (left-after (c .before) true (sym (c .if1 .taken)))))
 
 loop-again-2 : tie.Need-loop-again-2 Inv-loop μ-loop
 loop-again-2 c =
-    let t = c .before .before .before in
-    let l = t .before in
-    let s = l .before .before .before .before in
-    (omega arith, omega (arith, l .loop .inv .1, ap length (left-by (ss s) (ls s) (s .args .changes .now) (s .args .n) (l .loop .i) (t .loop-test .taken) (s .pre .2) false (sym (c .if1 .left) ∙ c .before .unchanged .ensures))))
+    let turn = c .before .before .before .before in
+    (omega arith, omega (arith, turn .loop .inv .1, ap length (left-after (c .before) false (sym (c .if1 .left)))))
 
 returns : tie.Need-returns Inv-loop μ-loop
 returns c =
-    let l = c .before in
-    let s = l .before .before .before .before in
-    omega (arith, l .loop .inv .1, ap length (left-none (ss s) (ls s) (s .args .changes .now) (s .args .n) (l .loop .i) (c .loop-test .left)))
+    let turn = c .before in
+    let s = start turn in
+    let none = left-none (ss s) (ls s) (s .args .changes .now) (s .args .n) (turn .loop .i) (c .loop-test .left) in
+    omega (arith, turn .loop .inv .1, ap length none)
 
 pub count-changed-spec : {M : Type 1} → statement M
 count-changed-spec =
@@ -90,16 +79,16 @@ count-changed-spec =
     Inv-loop
     μ-loop
     loop-holds
-    mul-at
-    add-end
-    sub-unchanged
-    part-unchanged-start
-    part-unchanged-end
+    (λ c. omega arith)
+    (λ c. omega arith)
+    (λ c. omega arith)
+    (λ c. omega arith)
+    (λ c. omega arith)
     unchanged-requires
-    add-i
-    loop-less
+    (λ c. omega arith)
+    (λ c. omega arith)
     loop-again
-    add-k
-    loop-less-2
+    (λ c. omega arith)
+    (λ c. omega arith)
     loop-again-2
     returns)

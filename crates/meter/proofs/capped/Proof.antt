@@ -4,9 +4,6 @@ use Rattle.meter.specs.Laws.{capped-low, capped-high}
 use Rattle.meter.proofs.capped.Statement.{statement}
 use Rattle.meter.proofs.capped.Tie as tie
 
-product-plus-requires : tie.Need-product-plus-requires
-product-plus-requires c κs = search needs
-
 low : tie.Need-returns
 low c = let p = c .before .before .product-plus in capped-low (p .result .hi) (p .result .lo) _ (search needs) (p .ensures) (c .if1 .taken)
 
@@ -14,4 +11,4 @@ high : tie.Need-returns-2
 high c = let p = c .before .before .product-plus in capped-high (p .result .hi) (p .result .lo) _ (p .ensures) (c .if1 .left)
 
 pub capped-spec : {M : Type 1} → statement M
-capped-spec = tie.close (tie.spec product-plus-requires low high)
+capped-spec = tie.close (tie.spec (λ c κs. search needs) low high)

@@ -17,10 +17,12 @@ decides false a b f g = sym (lt-leb a b (g refl))
 
 -- under equal upper words the lower decide, else the upper
 pub low-decides : (a b : Wide) → a .hi ≡ b .hi → leb (a .lo) (b .lo) ≡ leb (wide a) (wide b)
-low-decides a b e = decides (leb (a .lo) (b .lo)) (wide a) (wide b) (λ t. omega (arith, leb-true (a .lo) (b .lo) t)) (λ t. omega (arith, leb-false (a .lo) (b .lo) t))
+low-decides a b e =
+    decides (leb (a .lo) (b .lo)) (wide a) (wide b) (λ t. omega (arith, leb-true (a .lo) (b .lo) t)) (λ t. omega (arith, leb-false (a .lo) (b .lo) t))
 
 pub high-decides : (a b : Wide) → (a .hi ≡ b .hi → ⊥) → a .lo < 2 ^ 64 → b .lo < 2 ^ 64 → ltb (a .hi) (b .hi) ≡ leb (wide a) (wide b)
-high-decides a b ne h k = decides (ltb (a .hi) (b .hi)) (wide a) (wide b) (λ t. omega (arith, ltb-true (a .hi) (b .hi) t)) (λ t. omega (arith, ltb-false (a .hi) (b .hi) t))
+high-decides a b ne h k =
+    decides (ltb (a .hi) (b .hi)) (wide a) (wide b) (λ t. omega (arith, ltb-true (a .hi) (b .hi) t)) (λ t. omega (arith, ltb-false (a .hi) (b .hi) t))
 
 -- a - b where the lower word need not borrow, and where it must
 pub no-borrow : (a b : Wide) → b .hi ≤ a .hi → b .lo ≤ a .lo → wide a ≡ wide b + ((a .hi - b .hi) * 2 ^ 64 + (a .lo - b .lo))
@@ -32,7 +34,8 @@ must-borrow a b h l = omega arith
 pub borrowed : (a b : Wide) → a .lo < b .lo → b .lo < 2 ^ 64 → a .lo + (2 ^ 64 - 1 - b .lo) + 1 < 2 ^ 64
 borrowed a b l w = omega arith
 
-pub with-borrow : (a b : Wide) → b .hi < a .hi → a .lo < b .lo → b .lo < 2 ^ 64 → wide a ≡ wide b + ((a .hi - b .hi - 1) * 2 ^ 64 + (a .lo + (2 ^ 64 - 1 - b .lo) + 1))
+pub with-borrow : (a b : Wide) → b .hi < a .hi → a .lo < b .lo → b .lo < 2 ^ 64
+    → wide a ≡ wide b + ((a .hi - b .hi - 1) * 2 ^ 64 + (a .lo + (2 ^ 64 - 1 - b .lo) + 1))
 with-borrow a b h l w = omega arith
 
 -- what e times the divisor's upper word leaves of n

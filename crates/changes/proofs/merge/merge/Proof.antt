@@ -21,45 +21,41 @@ returns c =
 
 returns-2 : tie.Need-returns-2
 returns-2 c =
-    let at-if1 = c .before .before in
-    let start = at-if1 .before .before .before .before in
-    let a = start .args in
-    merges-as _ _ _ _ _ _ _ (stored-by (now (a .changes)) (a .count) false (at-if1 .if1 .left) (sym (not-true _ (c .if2 .taken)) ∙ c .before .rising .ensures)) refl
-    (merges-none _ (now (a .out)))
+    let stand = c .before .before in
+    let a = stand .before .before .before .before .args in
+    let falls = sym (not-true _ (c .if2 .taken)) ∙ c .before .rising .ensures in
+    merges-as _ _ _ _ _ _ _ (stored-by (now (a .changes)) (a .count) false (stand .if1 .left) falls) refl (merges-none _ (now (a .out)))
 
 merge-whole-requires : tie.Need-merge-whole-requires
 merge-whole-requires c κs =
-    let at-s = c .before .before in
-    let at-check = at-s .before .before in
-    let at-if1 = at-check .before .before .before in
-    let start = at-if1 .before .before .before .before in
-    let t = now (start .args .store) in
-    let e = sym (at-check .check .ensures) ∙ at-s .s .given .1 in
-    (whole-table 40 t (omega arith) _ e, checks-exactly 40 t (omega arith) _ .0 e .0, omega (arith, at-if1 .if1 .left))
+    let told = c .before .before in
+    let checked = told .before .before in
+    let stand = checked .before .before .before in
+    let t = now (stand .before .before .before .before .args .store) in
+    let e = sym (checked .check .ensures) ∙ told .s .given .1 in
+    (whole-table 40 t (omega arith) _ e, checks-exactly 40 t (omega arith) _ .0 e .0, omega (arith, stand .if1 .left))
 
 returns-3 : tie.Need-returns-3
 unfolding rowsOf
 returns-3 c =
-    let at-check = c .before .before in
-    let start = at-check .before .before .before .before .before .before .before in
-    let a = start .args in
-    let e = sym (at-check .check .ensures) ∙ c .enum-told .given .1 in
+    let checked = c .before .before in
+    let a = checked .before .before .before .before .before .before .before .args in
+    let e = sym (checked .check .ensures) ∙ c .enum-told .given .1 in
     merges-as _ _ _ _ _ _ _ refl (ap (λ (k : Checked). rowsOf k (now (a .store))) e) (merges-bad _ (now (a .out)))
 
 returns-4 : tie.Need-returns-4
 unfolding rowsOf
 returns-4 c =
-    let at-merge-whole = c .before .before in
-    let at-s = at-merge-whole .before .before .before in
-    let at-check = at-s .before .before in
-    let at-if2 = at-check .before in
-    let at-rising = at-if2 .before in
-    let at-if1 = at-rising .before in
-    let start = at-if1 .before .before .before .before in
-    let a = start .args in
-    let e = sym (at-check .check .ensures) ∙ at-s .s .given .1 in
-    merges-as _ _ _ _ _ _ _ (stored-by (now (a .changes)) (a .count) true (at-if1 .if1 .left) (sym (not-false _ (at-if2 .if2 .left)) ∙ at-rising .rising .ensures))
-    (ap (λ (k : Checked). rowsOf k (now (a .store))) e) (at-merge-whole .merge-whole .ensures)
+    let done = c .before .before in
+    let told = done .before .before .before in
+    let checked = told .before .before in
+    let risen = checked .before in
+    let stand = risen .before .before in
+    let a = stand .before .before .before .before .args in
+    let rises = sym (not-false _ (risen .if2 .left)) ∙ risen .before .rising .ensures in
+    let e = sym (checked .check .ensures) ∙ told .s .given .1 in
+    merges-as _ _ _ _ _ _ _ (stored-by (now (a .changes)) (a .count) true (stand .if1 .left) rises)
+    (ap (λ (k : Checked). rowsOf k (now (a .store))) e) (done .merge-whole .ensures)
 
 pub merge-spec : {M : Type 1} → statement M
 merge-spec =

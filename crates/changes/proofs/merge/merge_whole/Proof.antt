@@ -17,31 +17,34 @@ returns c =
     merges-short (rows 40 (a .n) (now (a .changes))) (rows 40 (a .ns) (now (a .store))) (now (a .out)) (a .n) (a .ns)
     (rows-length 40 (a .n) (now (a .changes))) (rows-length 40 (a .ns) (now (a .store))) (c .if1 .taken)
 
+abbrev start : tie.After-copy-in → tie.Start
+start copied = copied .before .before .before .before .before .before
+
 put-rows-requires : tie.Need-put-rows-requires
 put-rows-requires c κs =
-    let at-copy-in = c .before .before .before in
-    let at-if1 = at-copy-in .before .before in
-    let start = at-if1 .before .before .before .before in
-    let a = start .args in (
-      copied-table (now (a .store)) (now (a .out)) _ (a .ns) (start .pre .1) (at-copy-in .copy-in .ensures) (omega (arith, at-copy-in .copy-in .kept .0, at-if1 .if1 .left)) (start .pre .0),
-      start .pre .2,
-      omega (arith, at-copy-in .copy-in .kept .0, at-if1 .if1 .left),
+    let copied = c .before .before .before in
+    let kept = copied .copy-in .kept .0 in
+    let room = copied .before .before .if1 .left in
+    let s = start copied in
+    let a = s .args in (
+      copied-table (now (a .store)) (now (a .out)) _ (a .ns) (s .pre .1) (copied .copy-in .ensures) (omega (arith, kept, room)) (s .pre .0),
+      s .pre .2,
+      omega (arith, kept, room),
     )
 
 returns-2 : tie.Need-returns-2
 returns-2 c =
-    let at-put-rows = c .before .before in
-    let at-copy-in = at-put-rows .before .before .before .before in
-    let at-if1 = at-copy-in .before .before in
-    let start = at-if1 .before .before .before .before in
-    let a = start .args in
+    let put = c .before .before in
+    let copied = put .before .before .before .before in
+    let s = start copied in
+    let a = s .args in
     let cs = rows 40 (a .n) (now (a .changes)) in
-    let e = at-copy-in .copy-in .ensures in
+    let e = copied .copy-in .ensures in
     merges-rows cs (rows 40 (a .ns) (now (a .store))) (now (a .out)) (a .n) (a .ns)
-    (rows-length 40 (a .n) (now (a .changes))) (rows-length 40 (a .ns) (now (a .store))) (at-if1 .if1 .left) _ _ (at-put-rows .put-rows .result)
-    (at-put-rows .put-rows .kept .0 ∙ at-copy-in .copy-in .kept .0) (λ j. c .slice-known3 .given j .fits)
-    (copied-rest (now (a .store)) (now (a .out)) _ (a .ns) (start .pre .1) e)
-    (at-put-rows .put-rows .ensures .0 ∙ ap (merged cs) (copied-rows (now (a .store)) (now (a .out)) _ (a .ns) (start .pre .1) e)) (at-put-rows .put-rows .ensures .1)
+    (rows-length 40 (a .n) (now (a .changes))) (rows-length 40 (a .ns) (now (a .store))) (copied .before .before .if1 .left) _ _ (put .put-rows .result)
+    (put .put-rows .kept .0 ∙ copied .copy-in .kept .0) (λ j. c .slice-known3 .given j .fits)
+    (copied-rest (now (a .store)) (now (a .out)) _ (a .ns) (s .pre .1) e)
+    (put .put-rows .ensures .0 ∙ ap (merged cs) (copied-rows (now (a .store)) (now (a .out)) _ (a .ns) (s .pre .1) e)) (put .put-rows .ensures .1)
 
 pub merge-whole-spec : {M : Type 1} → statement M
 merge-whole-spec = tie.close (tie.spec (λ c. search needs) returns (λ c κs. search needs) put-rows-requires (λ c. search needs) returns-2)

@@ -18,19 +18,21 @@ loop-holds c = putting-start _ _ _ _ (c .before .before .pre .0)
 
 put-row-requires : tie.Need-put-row-requires Inv-loop μ-loop
 put-row-requires c κs =
-    let at-loop-test = c .before .before in
-    let at-loop = at-loop-test .before in
-    let start = at-loop .before .before .before in
-    let v = at-loop .loop .inv in
-    (v .table, part-length (now (start .args .changes)) (start .args .n) (at-loop .loop .i) (at-loop-test .loop-test .taken) (start .pre .1), omega (arith, v .most, v .size, start .pre .2, at-loop-test .loop-test .taken))
+    let test = c .before .before in
+    let turn = test .before in
+    let start = turn .before .before .before in
+    let v = turn .loop .inv in
+    let size = part-length (now (start .args .changes)) (start .args .n) (turn .loop .i) (test .loop-test .taken) (start .pre .1) in
+    (v .table, size, omega (arith, v .most, v .size, start .pre .2, test .loop-test .taken))
 
 loop-again : tie.Need-loop-again Inv-loop μ-loop
 loop-again c =
-    let at-put-row = c .before .before in
-    let at-loop-test = at-put-row .before .before .before in
-    let at-loop = at-loop-test .before in
-    let start = at-loop .before .before .before in
-    putting-turn _ _ _ _ _ _ (at-loop .loop .k) _ (at-loop .loop .i) (at-loop .loop .inv) (at-loop-test .loop-test .taken) (start .pre .1) (at-put-row .put-row .kept .0) (at-put-row .put-row .ensures)
+    let put = c .before .before in
+    let test = put .before .before .before in
+    let turn = test .before in
+    let start = turn .before .before .before in
+    putting-turn _ _ _ _ _ _ (turn .loop .k) _ (turn .loop .i) (turn .loop .inv) (test .loop-test .taken) (start .pre .1)
+    (put .put-row .kept .0) (put .put-row .ensures)
 
 returns : tie.Need-returns Inv-loop μ-loop
 returns c = putting-end _ _ _ _ _ (c .before .loop .k) (c .before .loop .i) (c .loop-test .left) (c .before .loop .inv)

@@ -11,33 +11,9 @@ use Rattle.container.specs.Entries.{entryAt}
 use Rattle.container.proofs.entries.entry_at.Statement.{statement}
 use Rattle.container.proofs.entries.entry_at.Tie as tie
 
-left-requires : tie.Need-left-requires
-left-requires c κs = search needs
-
 returns : tie.Need-returns
 unfolding entryAt
 returns c = rw (entry-none (now (c .before .before .before .args .s)) (c .before .before .before .args .at) (omega arith))
-
-read-requires : tie.Need-read-requires
-read-requires c κs = search needs
-
-add-read : tie.Need-add-read
-add-read c = search needs
-
-read-requires-2 : tie.Need-read-requires-2
-read-requires-2 c κs = search needs
-
-add-counted-at : tie.Need-add-counted-at
-add-counted-at c = search needs
-
-counted-at-requires : tie.Need-counted-at-requires
-counted-at-requires c κs = search needs
-
-enum-known-reads : tie.Need-enum-known-reads
-enum-known-reads c = search needs
-
-enum-told : tie.Need-enum-told
-enum-told c = search needs
 
 -- the bytes and the place, where the first list is read; selector and offset stand there
 abbrev bytes : (c : tie.After-counted-at) → List ℕ
@@ -55,19 +31,11 @@ returns-2 c =
     let p = c .before .before in
     rw (short-reads (bytes p) (place p) (numbers p) (short-told (place p + 8) _ (sym (c .enum-told .given .1) ∙ p .counted-at .ensures)))
 
-counted-at-requires-2 : tie.Need-counted-at-requires-2
-counted-at-requires-2 c κs = search needs
-
-enum-known-writes : tie.Need-enum-known-writes
-enum-known-writes c = search needs
-
-enum-told-2 : tie.Need-enum-told-2
-enum-told-2 c = search needs
-
 abbrev at-reads : (c : tie.After-known-told) → tie.After-counted-at
 at-reads c = c .before .before .before
 
-reads-found : (c : tie.After-known-told) → Listed (bytes (at-reads c)) (place (at-reads c) + 8) (c .before .reads .given .0 .0) (c .before .reads .given .0 .1 .0)
+reads-found : (c : tie.After-known-told) →
+    Listed (bytes (at-reads c)) (place (at-reads c) + 8) (c .before .reads .given .0 .0) (c .before .reads .given .0 .1 .0)
 reads-found c = let p = at-reads c in list-told (bytes p) (place p + 8) _ _ (sym (c .before .reads .given .1) ∙ p .counted-at .ensures)
 
 returns-3 : tie.Need-returns-3
@@ -78,19 +46,11 @@ returns-3 c =
     let p = at-reads r in
     rw (short-writes (bytes p) (place p) (numbers p) _ _ (reads-found r) (short-told _ _ (sym (c .enum-told2 .given .1) ∙ q .counted-at2 .ensures)))
 
-counted-at-requires-3 : tie.Need-counted-at-requires-3
-counted-at-requires-3 c κs = search needs
-
-enum-known-keyed-reads : tie.Need-enum-known-keyed-reads
-enum-known-keyed-reads c = search needs
-
-enum-told-3 : tie.Need-enum-told-3
-enum-told-3 c = search needs
-
 abbrev at-writes : (c : tie.After-known-told2) → tie.After-known-told
 at-writes c = c .before .before .before .before
 
-writes-found : (c : tie.After-known-told2) → Listed (bytes (at-reads (at-writes c))) (c .before .before .before .before .before .reads .given .0 .1 .0) (c .before .writes .given .0 .0) (c .before .writes .given .0 .1 .0)
+writes-found : (c : tie.After-known-told2) →
+    Listed (bytes (at-reads (at-writes c))) (c .before .before .before .before .before .reads .given .0 .1 .0) (c .before .writes .given .0 .0) (c .before .writes .given .0 .1 .0)
 writes-found c = list-told (bytes (at-reads (at-writes c))) _ _ _ (sym (c .before .writes .given .1) ∙ c .before .before .before .counted-at2 .ensures)
 
 returns-4 : tie.Need-returns-4
@@ -102,19 +62,11 @@ returns-4 c =
     let p = at-reads r in
     rw (short-keyed-reads (bytes p) (place p) (numbers p) _ _ (reads-found r) _ _ (writes-found w) (short-told _ _ (sym (c .enum-told3 .given .1) ∙ q .counted-at3 .ensures)))
 
-counted-at-requires-4 : tie.Need-counted-at-requires-4
-counted-at-requires-4 c κs = search needs
-
-enum-known-keyed-writes : tie.Need-enum-known-keyed-writes
-enum-known-keyed-writes c = search needs
-
-enum-told-4 : tie.Need-enum-told-4
-enum-told-4 c = search needs
-
 abbrev at-keyed-reads : (c : tie.After-known-told3) → tie.After-known-told2
 at-keyed-reads c = c .before .before .before .before
 
-keyed-reads-found : (c : tie.After-known-told3) → Listed (bytes (at-reads (at-writes (at-keyed-reads c)))) (c .before .before .before .before .before .writes .given .0 .1 .0) (c .before .keyed-reads .given .0 .0) (c .before .keyed-reads .given .0 .1 .0)
+keyed-reads-found : (c : tie.After-known-told3) →
+    Listed (bytes (at-reads (at-writes (at-keyed-reads c)))) (c .before .before .before .before .before .writes .given .0 .1 .0) (c .before .keyed-reads .given .0 .0) (c .before .keyed-reads .given .0 .1 .0)
 keyed-reads-found c = list-told (bytes (at-reads (at-writes (at-keyed-reads c)))) _ _ _ (sym (c .before .keyed-reads .given .1) ∙ c .before .before .before .counted-at3 .ensures)
 
 returns-5 : tie.Need-returns-5
@@ -141,26 +93,26 @@ pub entry-at-spec : {M : Type 1} → statement M
 entry-at-spec =
     tie.close
     (tie.spec
-    left-requires
+    (λ c κs. search needs)
     returns
-    read-requires
-    add-read
-    read-requires-2
-    add-counted-at
-    counted-at-requires
-    enum-known-reads
-    enum-told
+    (λ c κs. search needs)
+    (λ c. search needs)
+    (λ c κs. search needs)
+    (λ c. search needs)
+    (λ c κs. search needs)
+    (λ c. search needs)
+    (λ c. search needs)
     returns-2
-    counted-at-requires-2
-    enum-known-writes
-    enum-told-2
+    (λ c κs. search needs)
+    (λ c. search needs)
+    (λ c. search needs)
     returns-3
-    counted-at-requires-3
-    enum-known-keyed-reads
-    enum-told-3
+    (λ c κs. search needs)
+    (λ c. search needs)
+    (λ c. search needs)
     returns-4
-    counted-at-requires-4
-    enum-known-keyed-writes
-    enum-told-4
+    (λ c κs. search needs)
+    (λ c. search needs)
+    (λ c. search needs)
     returns-5
     returns-6)

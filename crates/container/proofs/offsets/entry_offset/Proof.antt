@@ -9,24 +9,6 @@ use Rattle.container.specs.OffsetLaws.{offsetBy, offset-told}
 use Rattle.container.proofs.offsets.entry_offset.Statement.{statement}
 use Rattle.container.proofs.offsets.entry_offset.Tie as tie
 
-read-requires : tie.Need-read-requires
-read-requires c κs = search needs
-
-enum-known-d : tie.Need-enum-known-d
-enum-known-d c = search needs
-
-enum-known-d-2 : tie.Need-enum-known-d-2
-enum-known-d-2 c = search needs
-
-find-requires : tie.Need-find-requires
-find-requires c κs = search needs
-
-enum-known-f : tie.Need-enum-known-f
-enum-known-f c = search needs
-
-enum-told : tie.Need-enum-told
-enum-told c = search needs
-
 returns : tie.Need-returns
 unfolding offsetOf
 returns c =
@@ -36,7 +18,8 @@ returns c =
     rw (refused-told (now (start .args .s)) _ (sym (told .d .given .1) ∙ bytes-read .read .ensures))
 
 -- what the search found decides
-searched : (c : tie.After-find) → offsetBy (c .find .result) ≡ offsetOf (c .before .before .before .before .before .before .args .selector) (readOf (now (c .before .before .before .before .before .before .args .s)))
+searched : (c : tie.After-find) →
+    offsetBy (c .find .result) ≡ offsetOf (c .before .before .before .before .before .before .args .selector) (readOf (now (c .before .before .before .before .before .before .args .s)))
 searched c =
     let told-done = c .before .before in
     let bytes-read = told-done .before .before in
@@ -53,12 +36,12 @@ pub entry-offset-spec : {M : Type 1} → statement M
 entry-offset-spec =
     tie.close
     (tie.spec
-    read-requires
-    enum-known-d
-    enum-known-d-2
-    find-requires
-    enum-known-f
-    enum-told
+    (λ c κs. search needs)
+    (λ c. search needs)
+    (λ c. search needs)
+    (λ c κs. search needs)
+    (λ c. search needs)
+    (λ c. search needs)
     returns
     returns-2
     returns-3)

@@ -17,15 +17,6 @@ abbrev μ-loop : tie.MeasureT-loop
 loop-holds : tie.Need-loop-holds Inv-loop μ-loop
 loop-holds c = search-begins _ _ _ _
 
-entry-at-requires : tie.Need-entry-at-requires Inv-loop μ-loop
-entry-at-requires c κs = search needs
-
-enum-known-e : tie.Need-enum-known-e Inv-loop μ-loop
-enum-known-e c = search needs
-
-enum-told : tie.Need-enum-told Inv-loop μ-loop
-enum-told c = search needs
-
 returns : tie.Need-returns Inv-loop μ-loop
 returns c =
     let e = c .before .before in
@@ -33,7 +24,8 @@ returns c =
     λ es t k. absurd (none-there _ _ _ _ _ _ (l .loop .inv) es t k (e .before .loop-test .taken) (entry-short _ (l .loop .at) (sym (c .enum-told .given .1) ∙ e .entry-at .ensures)))
 
 -- the entry that a turn found
-entry-of : (c : tie.After-known-told Inv-loop μ-loop) → EntryFound (now (c .before .before .before .before .before .before .before .args .s)) (c .before .before .before .before .before .loop .at) (c .before .e .given .0 .0)
+entry-of : (c : tie.After-known-told Inv-loop μ-loop) →
+    EntryFound (now (c .before .before .before .before .before .before .before .args .s)) (c .before .before .before .before .before .loop .at) (c .before .e .given .0 .0)
 entry-of c =
     let told = c .before in
     let reading = told .before .before in
@@ -70,9 +62,9 @@ find-spec =
     Inv-loop
     μ-loop
     loop-holds
-    entry-at-requires
-    enum-known-e
-    enum-told
+    (λ c κs. search needs)
+    (λ c. search needs)
+    (λ c. search needs)
     returns
     returns-2
     sub-more

@@ -15,30 +15,12 @@ use Rattle.container.proofs.reader.body.Tie as tie
 returns : tie.Need-returns
 returns c = let s = now (c .before .before .args .s) in cut s (no-length s (c .if1 .taken))
 
-read-requires : tie.Need-read-requires
-read-requires c κs = search needs
-
-sub-if2 : tie.Need-sub-if2
-sub-if2 c = search needs
-
 returns-2 : tie.Need-returns-2
 returns-2 c =
     let bytes-read = c .before in
     let first = bytes-read .before in
     let start = first .before .before in
     let s = now (start .args .s) in cut s (no-code s (bytes-read .read .result) (bytes-read .read .ensures) (first .if1 .left) (c .if2 .taken))
-
-add-counted-at : tie.Need-add-counted-at
-add-counted-at c = search needs
-
-counted-at-requires : tie.Need-counted-at-requires
-counted-at-requires c κs = search needs
-
-enum-known-consts : tie.Need-enum-known-consts
-enum-known-consts c = search needs
-
-enum-told : tie.Need-enum-told
-enum-told c = search needs
 
 -- the bytes and the code's length, where the constants are read
 abbrev bytes : (c : tie.After-counted-at) → List ℕ
@@ -56,9 +38,6 @@ returns-3 c =
     cut (bytes p) (no-consts (bytes p) (size p) (p .before .before .read .ensures) (omega (arith, code-stands p)) (code-stands p)
     (short-told (8 + size p) _ (sym (c .enum-told .given .1) ∙ p .counted-at .ensures)))
 
-left-requires : tie.Need-left-requires
-left-requires c κs = search needs
-
 abbrev at-consts : (c : tie.After-left) → tie.After-counted-at
 at-consts c = c .before .before .before .before
 
@@ -74,21 +53,6 @@ returns-4 c =
     let k = c .before in
     let p = at-consts k in
     cut (bytes p) (no-count (bytes p) (size p) (p .before .before .read .ensures) (omega (arith, code-stands p)) (code-stands p) _ (next k) (consts-found k) (omega arith))
-
-read-requires-2 : tie.Need-read-requires-2
-read-requires-2 c κs = search needs
-
-add-entries-at : tie.Need-add-entries-at
-add-entries-at c = search needs
-
-entries-end-requires : tie.Need-entries-end-requires
-entries-end-requires c κs = search needs
-
-enum-known-end : tie.Need-enum-known-end
-enum-known-end c = search needs
-
-enum-told-2 : tie.Need-enum-told-2
-enum-told-2 c = search needs
 
 abbrev after-consts : (c : tie.After-entries-end) → tie.After-left
 after-consts c = c .before .before .before
@@ -107,7 +71,8 @@ returns-5 c =
 abbrev at-entries : (c : tie.After-known-told2) → tie.After-entries-end
 at-entries c = c .before .before .before
 
-entries-stand : (c : tie.After-known-told2) → EntriesFound (bytes (at-consts (after-consts (at-entries c)))) (at-entries c .before .read2 .result) (next (after-consts (at-entries c)) + 4) (c .before .end .given .0 .0)
+entries-stand : (c : tie.After-known-told2) →
+    EntriesFound (bytes (at-consts (after-consts (at-entries c)))) (at-entries c .before .read2 .result) (next (after-consts (at-entries c)) + 4) (c .before .end .given .0 .0)
 entries-stand c =
     let e = at-entries c in
     let k = after-consts e in
@@ -136,21 +101,21 @@ body-spec =
     tie.close
     (tie.spec
     returns
-    read-requires
-    sub-if2
+    (λ c κs. search needs)
+    (λ c. search needs)
     returns-2
-    add-counted-at
-    counted-at-requires
-    enum-known-consts
-    enum-told
+    (λ c. search needs)
+    (λ c κs. search needs)
+    (λ c. search needs)
+    (λ c. search needs)
     returns-3
-    left-requires
+    (λ c κs. search needs)
     returns-4
-    read-requires-2
-    add-entries-at
-    entries-end-requires
-    enum-known-end
-    enum-told-2
+    (λ c κs. search needs)
+    (λ c. search needs)
+    (λ c κs. search needs)
+    (λ c. search needs)
+    (λ c. search needs)
     returns-5
     returns-6
     returns-7)

@@ -9,18 +9,12 @@ use Rattle.container.proofs.reader.read.Tie as tie
 returns : tie.Need-returns
 returns c = no-tag (now (c .before .before .args .s)) (c .if1 .taken)
 
-read-requires : tie.Need-read-requires
-read-requires c κs = search needs
-
 returns-2 : tie.Need-returns-2
 returns-2 c =
     let bytes-read = c .before in
     let first = bytes-read .before in
     let start = first .before .before in
     bad-tag (now (start .args .s)) (first .if1 .left) (λ e. c .if2 .taken (bytes-read .read .ensures ∙ e))
-
-body-requires : tie.Need-body-requires
-body-requires c κs = search needs
 
 returns-3 : tie.Need-returns-3
 returns-3 c =
@@ -31,4 +25,11 @@ returns-3 c =
     c .body .ensures ∙ good-tag (now (start .args .s)) (first .if1 .left) (sym (bytes-read .read .ensures) ∙ second .if2 .left)
 
 pub read-spec : {M : Type 1} → statement M
-read-spec = tie.close (tie.spec returns read-requires returns-2 body-requires returns-3)
+read-spec =
+    tie.close
+    (tie.spec
+    returns
+    (λ c κs. search needs)
+    returns-2
+    (λ c κs. search needs)
+    returns-3)

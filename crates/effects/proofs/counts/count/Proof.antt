@@ -21,35 +21,28 @@ abbrev μ-loop : tie.MeasureT-loop
 
 -- a record counts once at most
 one : (c : tie.After-weight Inv-loop μ-loop) → c .weight .result ≤ 1
-one c = let s = c .before .before .before .before .before in rw (c .weight .ensures) (bit-small (either (s .args .all) (eqb (c .before .behind .result .kind) 1)))
+one c =
+    let read = c .before in
+    let start = read .before .before .before .before in
+    rw (c .weight .ensures) (bit-small (either (start .args .all) (eqb (read .record-ending-at .result .kind) 1)))
 
 loop-holds : tie.Need-loop-holds Inv-loop μ-loop
 loop-holds c = (omega arith, walk-start _ _ _ _ (λ x. omega arith))
 
-behind-requires : tie.Need-behind-requires Inv-loop μ-loop
-behind-requires c κs = (omega arith, omega arith)
-
-weight-requires : tie.Need-weight-requires Inv-loop μ-loop
-weight-requires c κs = search needs
-
-add-n : tie.Need-add-n Inv-loop μ-loop
-add-n c = omega (arith, one c)
-
-loop-less : tie.Need-loop-less Inv-loop μ-loop
-loop-less c = c .before .behind .ensures .less
-
 loop-again : tie.Need-loop-again Inv-loop μ-loop
 loop-again c =
-    let b = c .before in
-    let l = b .before .before in (
-      omega (arith, one c, b .behind .ensures .less),
-      walk-turn (l .loop .inv .1) (omega arith) (omega arith) (b .behind .result) (b .behind .ensures) _
-          (λ e es k. count-turn (l .before .before .args .all) (l .loop .n) (c .weight .result) (b .behind .result) (c .weight .ensures) e es (k .0)),
+    let read = c .before .record-ending-at in
+    let turn = c .before .before .before in (
+      omega (arith, one c, read .ensures .less),
+      walk-turn (turn .loop .inv .1) (omega arith) (omega arith) (read .result) (read .ensures) _
+          (λ e es k. count-turn (turn .before .before .args .all) (turn .loop .n) (c .weight .result) (read .result) (c .weight .ensures) e es (k .0)),
     )
 
 returns : tie.Need-returns Inv-loop μ-loop
 unfolding countOf
-returns c = let l = c .before in λ es s e. sym (add-zero (l .loop .n)) ∙ walk-end _ _ _ _ (l .loop .at) (omega arith) (l .loop .inv .1) es s e
+returns c =
+    let turn = c .before .loop in
+    λ es s e. sym (add-zero (turn .n)) ∙ walk-end _ _ _ _ (turn .at) (omega arith) (turn .inv .1) es s e
 
 pub count-spec : {M : Type 1} → statement M
 count-spec =
@@ -58,9 +51,9 @@ count-spec =
     Inv-loop
     μ-loop
     loop-holds
-    behind-requires
-    weight-requires
-    add-n
-    loop-less
+    (λ c κs. (omega arith, omega arith))
+    (λ c κs. search needs)
+    (λ c. omega (arith, one c))
+    (λ c. c .before .record-ending-at .ensures .less)
     loop-again
     returns)

@@ -5,11 +5,8 @@ use borrow.Author.Needs.{needs}
 use Rattle.effects.proofs.counts.events.Statement.{statement}
 use Rattle.effects.proofs.counts.events.Tie as tie
 
-count-requires : tie.Need-count-requires
-count-requires c κs = search needs
-
 returns : tie.Need-returns
 returns c = λ es s e. c .count .ensures es s e ∙ count-events es
 
 pub events-spec : {M : Type 1} → statement M
-events-spec = tie.close (tie.spec count-requires returns)
+events-spec = tie.close (tie.spec (λ c κs. search needs) returns)

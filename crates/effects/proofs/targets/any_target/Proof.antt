@@ -19,36 +19,27 @@ abbrev μ-loop : tie.MeasureT-loop
 loop-holds : tie.Need-loop-holds Inv-loop μ-loop
 loop-holds c = (omega arith, walk-start _ _ _ _ (λ x. refl))
 
-behind-requires : tie.Need-behind-requires Inv-loop μ-loop
-behind-requires c κs = (omega arith, omega arith)
-
-durable-requires : tie.Need-durable-requires Inv-loop μ-loop
-durable-requires c κs = search needs
-
 returns : tie.Need-returns Inv-loop μ-loop
 returns c =
-    let d = c .before in
-    let b = d .before in
-    let l = b .before .before in
-    walk-stop (l .loop .inv .1) (omega arith) (omega arith) (b .behind .result) (b .behind .ensures) true
-    (λ e es k. any-told _ (b .behind .result) e es k ∙ rw (sym (d .durable .ensures) ∙ c .if1 .taken))
-
-loop-less : tie.Need-loop-less Inv-loop μ-loop
-loop-less c = c .before .before .behind .ensures .less
+    let told = c .before in
+    let read = told .before .record-ending-at in
+    let turn = told .before .before .before .loop in
+    walk-stop (turn .inv .1) (omega arith) (omega arith) (read .result) (read .ensures) true
+    (λ e es k. any-told _ (read .result) e es k ∙ rw (sym (told .durable .ensures) ∙ c .if1 .taken))
 
 loop-again : tie.Need-loop-again Inv-loop μ-loop
 loop-again c =
-    let d = c .before in
-    let b = d .before in
-    let l = b .before .before in (
-      omega (arith, b .behind .ensures .less),
-      walk-turn (l .loop .inv .1) (omega arith) (omega arith) (b .behind .result) (b .behind .ensures) _
-          (λ e es k. any-told _ (b .behind .result) e es k ∙ rw (sym (d .durable .ensures) ∙ c .if1 .left)),
+    let told = c .before in
+    let read = told .before .record-ending-at in
+    let turn = told .before .before .before .loop in (
+      omega (arith, read .ensures .less),
+      walk-turn (turn .inv .1) (omega arith) (omega arith) (read .result) (read .ensures) _
+          (λ e es k. any-told _ (read .result) e es k ∙ rw (sym (told .durable .ensures) ∙ c .if1 .left)),
     )
 
 returns-2 : tie.Need-returns-2 Inv-loop μ-loop
 unfolding anyTarget
-returns-2 c = let l = c .before in walk-end _ _ _ _ (l .loop .at) (omega arith) (l .loop .inv .1)
+returns-2 c = let turn = c .before .loop in walk-end _ _ _ _ (turn .at) (omega arith) (turn .inv .1)
 
 pub any-target-spec : {M : Type 1} → statement M
 any-target-spec =
@@ -57,9 +48,9 @@ any-target-spec =
     Inv-loop
     μ-loop
     loop-holds
-    behind-requires
-    durable-requires
+    (λ c κs. (omega arith, omega arith))
+    (λ c κs. search needs)
     returns
-    loop-less
+    (λ c. c .before .before .record-ending-at .ensures .less)
     loop-again
     returns-2)

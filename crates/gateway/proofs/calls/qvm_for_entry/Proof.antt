@@ -1,36 +1,25 @@
--- `qvm_for_entry` meets its contract. Assumes nothing.
-use mathlib.Core.Path.{_∙_, ap}
+-- `qvm_for_entry` meets its contract: it is the call that its arguments make. Assumes nothing.
 use borrow.Author.Needs.{needs}
-use Rattle.interp.specs.Call.{Called}
-use Rattle.gateway.specs.BoundaryLaws.{untouched, passed}
-use Rattle.gateway.specs.Words.{answerWords}
-use Rattle.gateway.specs.Gateway.{gatewayOf}
+use Rattle.gateway.specs.GatewayLaws.{same-call}
 use Rattle.gateway.proofs.calls.qvm_for_entry.Statement.{statement}
 use Rattle.gateway.proofs.calls.qvm_for_entry.Tie as tie
 
-returns : tie.Need-returns
-unfolding gatewayOf
-returns c = untouched _ _ _ _ (c .if1 .taken)
+abbrev called : tie.After-slice-known20 → tie.After-answer-call
+called c = c .before .before .before .before .before .before .before .before .before .before .before .before .before .before .before .before .before .before .before .before
 
-returns-2 : tie.Need-returns-2
-unfolding gatewayOf
-returns-2 c =
-    let written = c .before .before in
-    let words = written .before .before .before in
-    let called = words .before .before .before .before .before .before .before .before .before .before .before .before .before .before .before .before .before .before .before in
-    let tested = called .before .before .before .before .before .before .before .before .before .before in
-    let e = called .for-entry .ensures in
-    passed _ _ _ _ _ _ _ _ (tested .if1 .left) (ap (λ (x : Called). x .lent) e) (words .answer-words .ensures ∙ ap (λ (x : Called). answerWords (x .answer)) e) (written .put .ensures)
+abbrev made : tie.After-answer-call → tie.After-for-entry
+made c = c .before .before .before .before .before .before .before .before .before .before .before
+
+returns : tie.Need-returns
+returns c = same-call _ _ _ _ _ _ _ _ _ _ (made (called c) .for-entry .ensures) (called c .answer-call .ensures)
 
 pub qvm-for-entry-spec : {M : Type 1} → statement M
 qvm-for-entry-spec =
     tie.close
     (tie.spec
-    returns
     (λ c κs. search needs)
     (λ c κs. search needs)
     (λ c. search needs)
-    (λ c κs. search needs)
     (λ c. search needs)
     (λ c. search needs)
     (λ c. search needs)
@@ -40,5 +29,4 @@ qvm-for-entry-spec =
     (λ c. search needs)
     (λ c. search needs)
     (λ c. search needs)
-    (λ c. search needs)
-    returns-2)
+    returns)

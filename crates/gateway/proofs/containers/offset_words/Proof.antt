@@ -14,7 +14,7 @@ returns-2 c = rw (c .enum-told .given .1)
 
 returns-3 : tie.Need-returns-3
 unfolding offsetWords
-returns-3 c = rw (c .before .before .before .o2 .given .1, c .before .number .ensures, c .argument .ensures)
+returns-3 c = rw (c .before .before .o2 .given .1, c .refusal .ensures)
 
 pub offset-words-spec : {M : Type 1} → statement M
 offset-words-spec =
@@ -23,7 +23,6 @@ offset-words-spec =
     (λ c. search needs)
     (λ c. search needs)
     (λ c. search needs)
-    (λ c κs. search needs)
     (λ c κs. search needs)
     returns
     returns-2

@@ -3,11 +3,8 @@ use borrow.Author.Needs.{needs}
 use Rattle.interp.proofs.answer.refused.Statement.{statement}
 use Rattle.interp.proofs.answer.refused.Tie as tie
 
-new-requires : tie.Need-new-requires
-new-requires c κs = search needs
-
 returns : tie.Need-returns
 returns c = rw (c .new .ensures)
 
 pub refused-spec : {M : Type 1} → statement M
-refused-spec = tie.close (tie.spec new-requires returns)
+refused-spec = tie.close (tie.spec (λ c κs. search needs) returns)

@@ -9,48 +9,39 @@ use Rattle.interp.specs.BufferLaws.{preload-short, preload-long}
 use Rattle.interp.proofs.buffers.preload.Statement.{statement}
 use Rattle.interp.proofs.buffers.preload.Tie as tie
 
-copy-in-requires : tie.Need-copy-in-requires
-copy-in-requires c κs = search needs
-
 slice-aggregate-copy-in : tie.Need-slice-aggregate-copy-in
 slice-aggregate-copy-in c =
     let start = c .before .before .before .before .before in
-    sym (length-take-le (length (start .args .memory .now)) (now (start .args .pre)) (omega arith))
+    sym (length-take-le (length (start .args .memory .now)) (now (start .args .preload)) (omega arith))
 
 copy-in-requires-2 : tie.Need-copy-in-requires-2
 copy-in-requires-2 c κs =
     let tested = c .before .before in
     let start = tested .before .before .before in
-    let m = start .args .memory .now in let p = now (start .args .pre) in omega (arith, length-take-le (length m) p (omega (arith, tested .if1 .left)))
-
-same-length : tie.Need-same-length
-same-length c = search needs
+    let m = start .args .memory .now in let p = now (start .args .preload) in omega (arith, length-take-le (length m) p (omega (arith, tested .if1 .left)))
 
 returns : tie.Need-returns
 returns c =
     let copy-in-at = c .before .before in
     let tested = copy-in-at .before .before in
     let start = tested .before .before .before in
-    preload-short (start .args .memory .now) (now (start .args .pre)) _ (tested .if1 .taken) (copy-in-at .copy-in .ensures)
-
-same-length-2 : tie.Need-same-length-2
-same-length-2 c = search needs
+    preload-short (start .args .memory .now) (now (start .args .preload)) _ (tested .if1 .taken) (copy-in-at .copy-in .ensures)
 
 returns-2 : tie.Need-returns-2
 returns-2 c =
     let copy-in2-at = c .before .before in
     let tested = copy-in2-at .before .before .before in
     let start = tested .before .before .before in
-    preload-long (start .args .memory .now) (now (start .args .pre)) _ (tested .if1 .left) (copy-in2-at .copy-in2 .ensures)
+    preload-long (start .args .memory .now) (now (start .args .preload)) _ (tested .if1 .left) (copy-in2-at .copy-in2 .ensures)
 
 pub preload-spec : {M : Type 1} → statement M
 preload-spec =
     tie.close
     (tie.spec
-    copy-in-requires
+    (λ c κs. search needs)
     slice-aggregate-copy-in
     copy-in-requires-2
-    same-length
+    (λ c. search needs)
     returns
-    same-length-2
+    (λ c. search needs)
     returns-2)

@@ -4,12 +4,6 @@ use Rattle.interp.specs.BufferLaws.{all-wiped}
 use Rattle.interp.proofs.buffers.wipe.Statement.{statement}
 use Rattle.interp.proofs.buffers.wipe.Tie as tie
 
-clear-requires : tie.Need-clear-requires
-clear-requires c κs = search needs
-
-same-length : tie.Need-same-length
-same-length c = search needs
-
 returns : tie.Need-returns
 returns c =
     let clear-at = c .before .before in
@@ -17,4 +11,4 @@ returns c =
     all-wiped (start .args .t .now) _ (clear-at .clear .ensures)
 
 pub wipe-spec : {M : Type 1} → statement M
-wipe-spec = tie.close (tie.spec clear-requires same-length returns)
+wipe-spec = tie.close (tie.spec (λ c κs. search needs) (λ c. search needs) returns)

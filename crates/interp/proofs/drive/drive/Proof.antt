@@ -18,17 +18,11 @@ begun c = c .before .before .before .before .before .before .before .before .bef
 
 -- ---- the needs
 
-begin-requires : tie.Need-begin-requires
-begin-requires c κs = search needs
-
 exec-requires : tie.Need-exec-requires
 exec-requires c κs =
     let begun = c .before .before .before .before .before .before .before .before .before .before .before .before .before .before .before .before .before .before .before .before .before .before .before .before .before .before .before in
     let start = begun .before .before .before .before .before .before .before .before .before .before .before .before .before .before .before .before .before .before .before .before .before .before .before .before .before .before .before .before .before in
     starting _ _ _ (begun .begin .ensures) (start .pre) (begun .begin .kept .1 .1 .0)
-
-finish-requires : tie.Need-finish-requires
-finish-requires c κs = search needs
 
 same-length : tie.Need-same-length
 same-length c = finished c .finish .kept .1 .0 ∙ ran (finished c) .exec .kept .1 .1 .1 .1 .1 .1 .1 .1 .1 .1 .1 .1 .1 .0 ∙ begun (ran (finished c)) .begin .kept .1 .1 .0
@@ -77,9 +71,9 @@ pub drive-spec : {M : Type 1} → statement M
 drive-spec =
     tie.close
     (tie.spec
-    begin-requires
+    (λ c κs. search needs)
     exec-requires
-    finish-requires
+    (λ c κs. search needs)
     same-length
     same-length-2
     same-length-3

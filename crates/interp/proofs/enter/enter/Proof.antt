@@ -42,74 +42,35 @@ mul-writes-end c = let w = within _ _ _ _ _ _ _ _ _ (start (c .before .before .b
 add-writes-end : tie.Need-add-writes-end
 add-writes-end c = let w = within _ _ _ _ _ _ _ _ _ (start (c .before .before .before .before .before) .pre) in omega (arith, w .writes, start (c .before .before .before .before .before) .good)
 
-mul-kreads-end : tie.Need-mul-kreads-end
-mul-kreads-end c = let w = within _ _ _ _ _ _ _ _ _ (start (c .before .before .before .before .before .before .before) .pre) in omega (arith, w .kreads, start (c .before .before .before .before .before .before .before) .good)
+mul-keyed-reads-end : tie.Need-mul-keyed-reads-end
+mul-keyed-reads-end c = let w = within _ _ _ _ _ _ _ _ _ (start (c .before .before .before .before .before .before .before) .pre) in omega (arith, w .keyed-reads, start (c .before .before .before .before .before .before .before) .good)
 
-add-kreads-end : tie.Need-add-kreads-end
-add-kreads-end c = let w = within _ _ _ _ _ _ _ _ _ (start (c .before .before .before .before .before .before .before) .pre) in omega (arith, w .kreads, start (c .before .before .before .before .before .before .before) .good)
+add-keyed-reads-end : tie.Need-add-keyed-reads-end
+add-keyed-reads-end c = let w = within _ _ _ _ _ _ _ _ _ (start (c .before .before .before .before .before .before .before) .pre) in omega (arith, w .keyed-reads, start (c .before .before .before .before .before .before .before) .good)
 
-mul-kwrites-end : tie.Need-mul-kwrites-end
-mul-kwrites-end c = let w = within _ _ _ _ _ _ _ _ _ (start (c .before .before .before .before .before .before .before .before .before) .pre) in omega (arith, w .kwrites, start (c .before .before .before .before .before .before .before .before .before) .good)
+mul-keyed-writes-end : tie.Need-mul-keyed-writes-end
+mul-keyed-writes-end c = let w = within _ _ _ _ _ _ _ _ _ (start (c .before .before .before .before .before .before .before .before .before) .pre) in omega (arith, w .keyed-writes, start (c .before .before .before .before .before .before .before .before .before) .good)
 
-add-kwrites-end : tie.Need-add-kwrites-end
-add-kwrites-end c = let w = within _ _ _ _ _ _ _ _ _ (start (c .before .before .before .before .before .before .before .before .before) .pre) in omega (arith, w .kwrites, start (c .before .before .before .before .before .before .before .before .before) .good)
-
-first-run-requires : tie.Need-first-run-requires
-first-run-requires c κs = search needs
-
-sub-drive : tie.Need-sub-drive
-sub-drive c = search needs
-
-part-drive-start : tie.Need-part-drive-start
-part-drive-start c = search needs
+add-keyed-writes-end : tie.Need-add-keyed-writes-end
+add-keyed-writes-end c = let w = within _ _ _ _ _ _ _ _ _ (start (c .before .before .before .before .before .before .before .before .before) .pre) in omega (arith, w .keyed-writes, start (c .before .before .before .before .before .before .before .before .before) .good)
 
 part-drive-end : tie.Need-part-drive-end
 part-drive-end c = within _ _ _ _ _ _ _ _ _ (start (slots (c .before)) .pre) .code
 
-sub-drive-2 : tie.Need-sub-drive-2
-sub-drive-2 c = search needs
-
-part-drive-start-2 : tie.Need-part-drive-start-2
-part-drive-start-2 c = search needs
-
 part-drive-end-2 : tie.Need-part-drive-end-2
 part-drive-end-2 c = within _ _ _ _ _ _ _ _ _ (start (slots (c .before .before)) .pre) .consts
-
-sub-drive-3 : tie.Need-sub-drive-3
-sub-drive-3 c = search needs
-
-part-drive-start-3 : tie.Need-part-drive-start-3
-part-drive-start-3 c = search needs
 
 part-drive-end-3 : tie.Need-part-drive-end-3
 part-drive-end-3 c = within _ _ _ _ _ _ _ _ _ (start (slots (c .before .before .before)) .pre) .reads
 
-sub-drive-4 : tie.Need-sub-drive-4
-sub-drive-4 c = search needs
-
-part-drive-start-4 : tie.Need-part-drive-start-4
-part-drive-start-4 c = search needs
-
 part-drive-end-4 : tie.Need-part-drive-end-4
 part-drive-end-4 c = within _ _ _ _ _ _ _ _ _ (start (slots (c .before .before .before .before)) .pre) .writes
 
-sub-drive-5 : tie.Need-sub-drive-5
-sub-drive-5 c = search needs
-
-part-drive-start-5 : tie.Need-part-drive-start-5
-part-drive-start-5 c = search needs
-
 part-drive-end-5 : tie.Need-part-drive-end-5
-part-drive-end-5 c = within _ _ _ _ _ _ _ _ _ (start (slots (c .before .before .before .before .before)) .pre) .kreads
-
-sub-drive-6 : tie.Need-sub-drive-6
-sub-drive-6 c = search needs
-
-part-drive-start-6 : tie.Need-part-drive-start-6
-part-drive-start-6 c = search needs
+part-drive-end-5 c = within _ _ _ _ _ _ _ _ _ (start (slots (c .before .before .before .before .before)) .pre) .keyed-reads
 
 part-drive-end-6 : tie.Need-part-drive-end-6
-part-drive-end-6 c = within _ _ _ _ _ _ _ _ _ (start (slots (c .before .before .before .before .before .before)) .pre) .kwrites
+part-drive-end-6 c = within _ _ _ _ _ _ _ _ _ (start (slots (c .before .before .before .before .before .before)) .pre) .keyed-writes
 
 drive-requires : tie.Need-drive-requires
 drive-requires c κs =
@@ -157,28 +118,28 @@ enter-spec =
     add-reads-end
     mul-writes-end
     add-writes-end
-    mul-kreads-end
-    add-kreads-end
-    mul-kwrites-end
-    add-kwrites-end
-    first-run-requires
-    sub-drive
-    part-drive-start
+    mul-keyed-reads-end
+    add-keyed-reads-end
+    mul-keyed-writes-end
+    add-keyed-writes-end
+    (λ c κs. search needs)
+    (λ c. search needs)
+    (λ c. search needs)
     part-drive-end
-    sub-drive-2
-    part-drive-start-2
+    (λ c. search needs)
+    (λ c. search needs)
     part-drive-end-2
-    sub-drive-3
-    part-drive-start-3
+    (λ c. search needs)
+    (λ c. search needs)
     part-drive-end-3
-    sub-drive-4
-    part-drive-start-4
+    (λ c. search needs)
+    (λ c. search needs)
     part-drive-end-4
-    sub-drive-5
-    part-drive-start-5
+    (λ c. search needs)
+    (λ c. search needs)
     part-drive-end-5
-    sub-drive-6
-    part-drive-start-6
+    (λ c. search needs)
+    (λ c. search needs)
     part-drive-end-6
     drive-requires
     same-length

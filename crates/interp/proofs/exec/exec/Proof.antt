@@ -4,18 +4,18 @@ use Prim.Native.Nat.{suc, _-_}
 use native.Mathlib.Omega.{arith}
 use borrow.Author.Needs.{needs}
 use denote.Ref.{now}
-use Rattle.machine.specs.Bridge.{lentTo}
+use Rattle.machine.specs.Lent.{lentTo}
 use Rattle.interp.specs.Ties.{parts}
 use Rattle.interp.specs.RunLaws.{Looping, Taken, loop-begins, fetch-fits, loop-refused, step-ready, loop-faults, loop-halts, loop-goes, loop-shrinks, loop-sizes}
 use Rattle.interp.proofs.exec.exec.Statement.{statement}
 use Rattle.interp.proofs.exec.exec.Tie as tie
 
 abbrev Inv-loop : tie.InvT-loop
-Inv-loop lent host code consts reads writes kreads kwrites store loader replies map memory₀ stack₀ changes₀ fetched₀ readable₀ writable₀ paid₀ log₀ file₀ run₀ memory stack changes fetched readable writable paid log file run =
-    Looping (parts code consts reads writes kreads kwrites store loader replies map lent host) run₀ (lentTo memory₀ stack₀ changes₀ fetched₀ readable₀ writable₀ paid₀ log₀) run file (lentTo memory stack changes fetched readable writable paid log)
+Inv-loop lent host code consts reads writes keyed-reads keyed-writes store loader replies starts memory₀ stack₀ changes₀ fetched₀ readable₀ writable₀ paid₀ log₀ file₀ run₀ memory stack changes fetched readable writable paid log file run =
+    Looping (parts code consts reads writes keyed-reads keyed-writes store loader replies starts lent host) run₀ (lentTo memory₀ stack₀ changes₀ fetched₀ readable₀ writable₀ paid₀ log₀) run file (lentTo memory stack changes fetched readable writable paid log)
 
 abbrev μ-loop : tie.MeasureT-loop
-μ-loop lent host code consts reads writes kreads kwrites store loader replies map memory₀ stack₀ changes₀ fetched₀ readable₀ writable₀ paid₀ log₀ file₀ run₀ memory stack changes fetched readable writable paid log file run =
+μ-loop lent host code consts reads writes keyed-reads keyed-writes store loader replies starts memory₀ stack₀ changes₀ fetched₀ readable₀ writable₀ paid₀ log₀ file₀ run₀ memory stack changes fetched readable writable paid log file run =
     suc (run₀ .meter .limit - run₀ .meter .used) - run .fetches
 
 -- ---- places: from a turn's ends to its step, and from there to its instruction, its decoding, its head and the start
@@ -69,8 +69,8 @@ fetch-requires c κs =
     let head = c .before in
     (fetch-fits _ _ _ _ _ _ (head .loop .inv) (start head .pre), (now (start head .args .code), c .decode .ensures, omega (arith, start head .good .1 .1 .1 .0)))
 
-add-t33 : tie.Need-add-t33 Inv-loop μ-loop
-add-t33 c = omega (arith, fetch-fits _ _ _ _ _ _ (refused c .before .loop .inv) (start (refused c .before) .pre))
+add-t32 : tie.Need-add-t32 Inv-loop μ-loop
+add-t32 c = omega (arith, fetch-fits _ _ _ _ _ _ (refused c .before .loop .inv) (start (refused c .before) .pre))
 
 same-length : tie.Need-same-length Inv-loop μ-loop
 same-length c = loop-sizes _ _ _ _ _ _ (refused c .before .loop .inv) (start (refused c .before) .pre) .memory
@@ -99,7 +99,7 @@ same-length-8 c = loop-sizes _ _ _ _ _ _ (refused c .before .loop .inv) (start (
 returns : tie.Need-returns Inv-loop μ-loop
 returns c =
     let told = c .before .before in
-    loop-refused _ _ _ _ _ _ (refused c .before .loop .inv) _ (refused c .decode .ensures) _ _ _ (rw (told .f .given .1) at (told .before .before .fetch .ensures)) refl
+    loop-refused _ _ _ _ _ _ (refused c .before .loop .inv) _ (refused c .decode .ensures) _ _ (rw (told .f .given .1) at (told .before .before .fetch .ensures)) refl
 
 step-requires : tie.Need-step-requires Inv-loop μ-loop
 step-requires c κs =
@@ -186,7 +186,7 @@ exec-spec =
     (λ c κs. search needs)
     fetch-requires
     (λ c. search needs)
-    add-t33
+    add-t32
     same-length
     same-length-2
     same-length-3

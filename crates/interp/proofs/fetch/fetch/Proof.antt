@@ -8,35 +8,13 @@ use Rattle.interp.specs.FetchLaws.{fetch-refused, fetch-on}
 use Rattle.interp.proofs.fetch.fetch.Statement.{statement}
 use Rattle.interp.proofs.fetch.fetch.Tie as tie
 
-enum-known-d : tie.Need-enum-known-d
-enum-known-d c = search needs
-
-enum-known-d-2 : tie.Need-enum-known-d-2
-enum-known-d-2 c = search needs
-
-enum-known-d-3 : tie.Need-enum-known-d-3
-enum-known-d-3 c = search needs
-
-enum-told : tie.Need-enum-told
-enum-told c = search needs
-
 returns : tie.Need-returns
 returns c = let a = c .enum-told .given .1 in let b = c .before .before .before .d2 .given .1 in absurd (let z : _≡_ {A = ℕ} 0 1 = cc in omega arith)
 
-number-requires : tie.Need-number-requires
-number-requires c κs = search needs
-
-argument-requires : tie.Need-argument-requires
-argument-requires c κs = search needs
-
 returns-2 : tie.Need-returns-2
 returns-2 c =
-    let numbered = c .before in
-    let refused = numbered .before .before in
-    rw (refused .before .before .before .d2 .given .1 ∙ refused .d3 .given .1) (fetch-refused _ _ _ _ (numbered .number .ensures) (c .argument .ensures))
-
-add-counted : tie.Need-add-counted
-add-counted c = search needs
+    let refused = c .before .before in
+    rw (refused .before .before .before .d2 .given .1 ∙ refused .d3 .given .1) (fetch-refused _ _ _ (c .refusal .ensures))
 
 onward-requires : tie.Need-onward-requires
 onward-requires c κs =
@@ -53,14 +31,13 @@ pub fetch-spec : {M : Type 1} → statement M
 fetch-spec =
     tie.close
     (tie.spec
-    enum-known-d
-    enum-known-d-2
-    enum-known-d-3
-    enum-told
+    (λ c. search needs)
+    (λ c. search needs)
+    (λ c. search needs)
+    (λ c. search needs)
     returns
-    number-requires
-    argument-requires
+    (λ c κs. search needs)
     returns-2
-    add-counted
+    (λ c. search needs)
     onward-requires
     returns-3)

@@ -4,12 +4,6 @@ use Rattle.interp.specs.Fetched.{instructionIn}
 use Rattle.interp.proofs.fetch.instruction.Statement.{statement}
 use Rattle.interp.proofs.fetch.instruction.Tie as tie
 
-enum-known-d : tie.Need-enum-known-d
-enum-known-d c = search needs
-
-enum-told : tie.Need-enum-told
-enum-told c = search needs
-
 returns : tie.Need-returns
 unfolding instructionIn
 returns c = rw (c .before .d .given .1)
@@ -19,4 +13,4 @@ unfolding instructionIn
 returns-2 c = rw (c .enum-told .given .1)
 
 pub instruction-spec : {M : Type 1} → statement M
-instruction-spec = tie.close (tie.spec enum-known-d enum-told returns returns-2)
+instruction-spec = tie.close (tie.spec (λ c. search needs) (λ c. search needs) returns returns-2)

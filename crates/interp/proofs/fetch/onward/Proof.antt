@@ -4,30 +4,12 @@ use Rattle.interp.specs.FetchLaws.{price-of, onward-out, onward-far, onw
 use Rattle.interp.proofs.fetch.onward.Statement.{statement}
 use Rattle.interp.proofs.fetch.onward.Tie as tie
 
-parts-of-requires : tie.Need-parts-of-requires
-parts-of-requires c κs = search needs
-
-price-requires : tie.Need-price-requires
-price-requires c κs = search needs
-
-pay-requires : tie.Need-pay-requires
-pay-requires c κs = search needs
-
-enum-known-paid : tie.Need-enum-known-paid
-enum-known-paid c = search needs
-
-enum-told : tie.Need-enum-told
-enum-told c = search needs
-
 returns : tie.Need-returns
 returns c =
     let paying = c .before .before in
     let priced = paying .before in
     let parted = priced .before in
-    onward-out _ _ _ _ (price-of _ _ _ (parted .parts-of .ensures) (priced .price .ensures)) _ (paying .pay .ensures) (c .enum-told .given .1)
-
-add-next : tie.Need-add-next
-add-next c = search needs
+    onward-out _ _ _ _ (price-of _ _ _ (parted .opcode .ensures) (priced .price .ensures)) _ (paying .pay .ensures) (c .enum-told .given .1)
 
 returns-2 : tie.Need-returns-2
 returns-2 c =
@@ -35,7 +17,7 @@ returns-2 c =
     let paying = paid-so .before .before in
     let priced = paying .before in
     let parted = priced .before in
-    onward-far _ _ _ _ (price-of _ _ _ (parted .parts-of .ensures) (priced .price .ensures)) _ (paying .pay .ensures) _ (paid-so .paid .given .1) (c .if1 .taken)
+    onward-far _ _ _ _ (price-of _ _ _ (parted .opcode .ensures) (priced .price .ensures)) _ (paying .pay .ensures) _ (paid-so .paid .given .1) (c .if1 .taken)
 
 returns-3 : tie.Need-returns-3
 returns-3 c =
@@ -43,18 +25,18 @@ returns-3 c =
     let paying = paid-so .before .before in
     let priced = paying .before in
     let parted = priced .before in
-    onward-done _ _ _ _ (price-of _ _ _ (parted .parts-of .ensures) (priced .price .ensures)) _ (paying .pay .ensures) _ (paid-so .paid .given .1) (c .if1 .left)
+    onward-done _ _ _ _ (price-of _ _ _ (parted .opcode .ensures) (priced .price .ensures)) _ (paying .pay .ensures) _ (paid-so .paid .given .1) (c .if1 .left)
 
 pub onward-spec : {M : Type 1} → statement M
 onward-spec =
     tie.close
     (tie.spec
-    parts-of-requires
-    price-requires
-    pay-requires
-    enum-known-paid
-    enum-told
+    (λ c κs. search needs)
+    (λ c κs. search needs)
+    (λ c κs. search needs)
+    (λ c. search needs)
+    (λ c. search needs)
     returns
-    add-next
+    (λ c. search needs)
     returns-2
     returns-3)

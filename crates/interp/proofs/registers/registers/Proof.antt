@@ -4,27 +4,6 @@ use Rattle.interp.specs.OperateLaws.{operate-put, operate-wide, operate-
 use Rattle.interp.proofs.registers.registers.Statement.{statement}
 use Rattle.interp.proofs.registers.registers.Tie as tie
 
-operate-requires : tie.Need-operate-requires
-operate-requires c κs = search needs
-
-enum-known-o : tie.Need-enum-known-o
-enum-known-o c = search needs
-
-set-requires : tie.Need-set-requires
-set-requires c κs = search needs
-
-enum-known-o-2 : tie.Need-enum-known-o-2
-enum-known-o-2 c = search needs
-
-set-wide-requires : tie.Need-set-wide-requires
-set-wide-requires c κs = search needs
-
-enum-known-o-3 : tie.Need-enum-known-o-3
-enum-known-o-3 c = search needs
-
-stop-requires : tie.Need-stop-requires
-stop-requires c κs = search needs
-
 returns : tie.Need-returns
 returns c = rw (c .set .ensures) (operate-put _ _ _ _ (c .before .before .before .before .operate .ensures) _ _ (c .before .before .o .given .1))
 
@@ -38,13 +17,13 @@ pub registers-spec : {M : Type 1} → statement M
 registers-spec =
     tie.close
     (tie.spec
-    operate-requires
-    enum-known-o
-    set-requires
-    enum-known-o-2
-    set-wide-requires
-    enum-known-o-3
-    stop-requires
+    (λ c κs. search needs)
+    (λ c. search needs)
+    (λ c κs. search needs)
+    (λ c. search needs)
+    (λ c κs. search needs)
+    (λ c. search needs)
+    (λ c κs. search needs)
     returns
     returns-2
     returns-3)

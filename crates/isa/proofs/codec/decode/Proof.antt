@@ -1,85 +1,55 @@
--- `decode` meets its contract, a law for each return. Assumes nothing.
-use mathlib.Core.Path.{sym, _∙_}
+-- `decode` meets its contract: the operands of an opcode are read by its shape. Assumes nothing.
+use mathlib.Core.Path.{_≡_, refl, sym, _∙_}
+use Prim.Native.Nat.{_+_, _-_}
 use native.Mathlib.Omega.{arith}
 use denote.Ref.{now}
+use lib.ListN.{length, take, drop}
 use borrow.Author.Needs.{needs}
-use Rattle.isa.specs.ReadsLaws.{Found, got-byte, got-none}
-use Rattle.isa.specs.DecodeLaws.{rest, past-end, no-opcode, an-opcode}
+use Rattle.isa.specs.declared.opcode.OpCode.{OpCode}
+use Rattle.isa.specs.Table.{rowOf}
+use Rattle.isa.specs.Codec.{operandsOf, decodeAt}
+use Rattle.words.specs.BytesLaws.{rest}
+use Rattle.isa.specs.DecodeLaws.{past-end, no-opcode, an-opcode}
+use Rattle.isa.specs.ShapeLaws.{row-shape, row-bare, row-six}
 use Rattle.isa.proofs.codec.decode.Statement.{statement}
 use Rattle.isa.proofs.codec.decode.Tie as tie
 
--- the opcode's byte was read at the place
-found : (c : tie.After-got) → Found (now (c .before .before .before .before .args .code)) (c .before .before .before .before .args .place) (c .got .given .0 .0) (c .before .before .read-byte .result .at)
-found c =
-    let r = c .before .before in
-    let a = r .before .before .args in
-    got-byte (now (a .code)) (a .place) (r .read-byte .result) (r .read-byte .ensures) (c .got .given .0 .0) (c .got .given .1)
+abbrev start : tie.After-row → tie.Start
+start c = c .before .before .before .before .before .before .before .before .before
 
-read-byte-requires : tie.Need-read-byte-requires
-read-byte-requires c κs = search needs
+abbrev opcode : tie.After-row → OpCode
+opcode c = c .before .before .before .op .given .0 .0
 
-enum-known-got : tie.Need-enum-known-got
-enum-known-got c = search needs
-
-enum-told : tie.Need-enum-told
-enum-told c = search needs
-
-returns : tie.Need-returns
-returns c =
-    let a = c .before .before .before .before .args in
-    past-end (now (a .code)) (a .place) (got-none (now (a .code)) (a .place) (c .before .before .read-byte .result) (c .before .before .read-byte .ensures) (c .enum-told .given .0 .0) (c .enum-told .given .1))
-
-from-byte-requires : tie.Need-from-byte-requires
-from-byte-requires c κs = search needs
-
-enum-known-op : tie.Need-enum-known-op
-enum-known-op c = search needs
-
-enum-told-2 : tie.Need-enum-told-2
-enum-told-2 c = search needs
+-- what the bytes after the opcode say is the answer
+says : (c : tie.After-row) → let code = now (start c .args .code) in let at = start c .args .place + 1 in
+    operandsOf (opcode c) (take (length code - at) (drop at code)) ≡ decodeAt code (start c .args .place)
+says c =
+    let a = start c .args in
+    let m = c .before .before .before in
+    rw (rest (a .place + 1) (now (a .code))) (an-opcode (now (a .code)) (a .place) (omega arith) (opcode c) (sym (m .before .before .from-byte .ensures) ∙ m .op .given .1))
 
 returns-2 : tie.Need-returns-2
 returns-2 c =
-    let g = c .before .before .before .before in
-    let f = found g in
-    let a = g .before .before .before .before .args in
-    rw (f .byte) at (no-opcode (now (a .code)) (a .place) (f .inside) (rw (f .byte) (sym (c .before .before .from-byte .ensures) ∙ c .enum-told2 .given .1)))
-
-sub-operands : tie.Need-sub-operands
-sub-operands c = let f = found (c .before .before .before .before .before) in omega (arith, f .after, f .inside)
-
-part-operands-start : tie.Need-part-operands-start
-part-operands-start c = let f = found (c .before .before .before .before .before) in omega (arith, f .after, f .inside)
-
-part-operands-end : tie.Need-part-operands-end
-part-operands-end c = search needs
-
-operands-requires : tie.Need-operands-requires
-operands-requires c κs = search needs
-
-returns-3 : tie.Need-returns-3
-returns-3 c =
-    let o = c .before .before .before in
-    let g = o .before .before .before .before in
-    let f = found g in
-    let a = g .before .before .before .before .args in
-    c .operands .ensures ∙ rw (rest (g .before .before .read-byte .result .at) (now (a .code)), f .after)
-    (an-opcode (now (a .code)) (a .place) (f .inside) (o .op .given .0 .0) (rw (f .byte) (sym (o .before .before .from-byte .ensures) ∙ o .op .given .1)))
+    let b = c .before .before in
+    let a = b .before .before .before .before .args in
+    no-opcode (now (a .code)) (a .place) (omega arith) (sym (b .from-byte .ensures) ∙ c .enum-told .given .1)
 
 pub decode-spec : {M : Type 1} → statement M
+unfolding rowOf
 decode-spec =
     tie.close
     (tie.spec
-    read-byte-requires
-    enum-known-got
-    enum-told
-    returns
-    from-byte-requires
-    enum-known-op
-    enum-told-2
+    (λ c. past-end _ _ (c .if1 .taken))
+    (λ c. search needs) (λ c κs. search needs) (λ c. search needs) (λ c. search needs)
     returns-2
-    sub-operands
-    part-operands-start
-    part-operands-end
-    operands-requires
-    returns-3)
+    (λ c. search needs) (λ c. search needs) (λ c. search needs) (λ c. search needs) (λ c κs. search needs)
+    (λ c κs. row-shape (opcode (c .before)) _ (c .before .row .ensures) 0 (c .match2 .keys1))
+    (λ c. c .none .ensures ∙ says (c .before .before))
+    (λ c κs. row-shape (opcode (c .before)) _ (c .before .row .ensures) 1 (c .match2 .keys2))
+    (λ c. c .one .ensures ∙ says (c .before .before))
+    (λ c κs. row-bare (opcode (c .before)) _ (c .before .row .ensures) 2 refl (c .match2 .keys3))
+    (λ c. c .two .ensures ∙ says (c .before .before))
+    (λ c κs. row-bare (opcode (c .before)) _ (c .before .row .ensures) 3 refl (c .match2 .keys4))
+    (λ c. c .three .ensures ∙ says (c .before .before))
+    (λ c κs. row-six (opcode (c .before)) _ (c .before .row .ensures) (omega (arith, c .match2 .rest)))
+    (λ c. c .six .ensures ∙ says (c .before .before)))

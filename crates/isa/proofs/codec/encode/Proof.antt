@@ -18,12 +18,6 @@ no-bad c = sym (c .before .before .bad-register .ensures) ∙ c .enum-told .give
 row-small : (c : tie.After-row) → Small (c .before .before .parts-of .result .0)
 row-small c = small (c .before .before .parts-of .result .0)
 
-bad-register-requires : tie.Need-bad-register-requires
-bad-register-requires c κs = search needs
-
-enum-known-b : tie.Need-enum-known-b
-enum-known-b c = search needs
-
 returns : tie.Need-returns
 returns c =
     let b = c .before in
@@ -31,15 +25,6 @@ returns c =
     let a = f .before .before .args in
     let e = encoded-bad (a .i) (now (a .out)) (b .b .given .0 .0) (sym (f .bad-register .ensures) ∙ b .b .given .1) in
     (e .answer, e .output)
-
-enum-told : tie.Need-enum-told
-enum-told c = search needs
-
-parts-of-requires : tie.Need-parts-of-requires
-parts-of-requires c κs = search needs
-
-row-requires : tie.Need-row-requires
-row-requires c κs = search needs
 
 add-size : tie.Need-add-size
 add-size c = rw (c .row .ensures) (omega (arith, row-small c))
@@ -56,9 +41,6 @@ returns-2 c =
     let e = encoded-no-room (a .i) (now (a .out)) (p .parts-of .result) (r .row .result) (p .parts-of .ensures) (r .row .ensures) (no-bad b) (c .if1 .taken) in
     (e .answer, e .output)
 
-slice-aggregate-put : tie.Need-slice-aggregate-put
-slice-aggregate-put c = search needs
-
 put-requires : tie.Need-put-requires
 put-requires c κs =
     let z = c .before .before in
@@ -66,9 +48,6 @@ put-requires c κs =
     let p = r .before .before in
     let a = p .before .before .before .before .before .args in
     (z .if1 .left, regs-stand (a .i) (p .parts-of .result) (r .row .result) (p .parts-of .ensures) (r .row .ensures))
-
-same-length : tie.Need-same-length
-same-length c = search needs
 
 returns-3 : tie.Need-returns-3
 returns-3 c =
@@ -85,16 +64,16 @@ pub encode-spec : {M : Type 1} → statement M
 encode-spec =
     tie.close
     (tie.spec
-    bad-register-requires
-    enum-known-b
+    (λ c κs. search needs)
+    (λ c. search needs)
     returns
-    enum-told
-    parts-of-requires
-    row-requires
+    (λ c. search needs)
+    (λ c κs. search needs)
+    (λ c κs. search needs)
     add-size
     add-size-2
     returns-2
-    slice-aggregate-put
+    (λ c. search needs)
     put-requires
-    same-length
+    (λ c. search needs)
     returns-3)

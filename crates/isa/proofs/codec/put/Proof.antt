@@ -9,9 +9,6 @@ use Rattle.isa.specs.EncodeLaws.{put-all}
 use Rattle.isa.proofs.codec.put.Statement.{statement}
 use Rattle.isa.proofs.codec.put.Tie as tie
 
-slice-write-out : tie.Need-slice-write-out
-slice-write-out c = search needs
-
 slice-aggregate-copy-in : tie.Need-slice-aggregate-copy-in
 slice-aggregate-copy-in c = let s = c .before .before .before .before in sym (length-take-le (s .args .n) (now (s .args .r)) (s .pre .1))
 
@@ -19,9 +16,6 @@ copy-in-requires : tie.Need-copy-in-requires
 copy-in-requires c κs =
     let s = c .before .before .before .before in
     rw (length-set, length-take-le (s .args .n) (now (s .args .r)) (s .pre .1)) (omega arith)
-
-add-write : tie.Need-add-write
-add-write c = search needs
 
 write-requires : tie.Need-write-requires
 write-requires c κs = omega (arith, simp length-set at (c .before .before .before .copy-in .kept .0))
@@ -43,10 +37,10 @@ pub put-spec : {M : Type 1} → statement M
 put-spec =
     tie.close
     (tie.spec
-    slice-write-out
+    (λ c. search needs)
     slice-aggregate-copy-in
     copy-in-requires
-    add-write
+    (λ c. search needs)
     write-requires
     same-length
     returns)

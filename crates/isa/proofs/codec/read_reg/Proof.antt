@@ -5,21 +5,12 @@ use Rattle.isa.specs.ReadsLaws.{reg-is, reg-none, reg-missing}
 use Rattle.isa.proofs.codec.read_reg.Statement.{statement}
 use Rattle.isa.proofs.codec.read_reg.Tie as tie
 
-read-byte-requires : tie.Need-read-byte-requires
-read-byte-requires c κs = search needs
-
-enum-known-got : tie.Need-enum-known-got
-enum-known-got c = search needs
-
 returns : tie.Need-returns
 returns c =
     let g = c .before .before in
     let r = g .before .before in
     let a = r .before .before .args in
     reg-none (now (a .code)) (a .at) (r .read-byte .result) (r .read-byte .ensures) (g .got .given .0 .0) (g .got .given .1) (c .if1 .taken)
-
-enum-told : tie.Need-enum-told
-enum-told c = search needs
 
 returns-2 : tie.Need-returns-2
 returns-2 c =
@@ -36,4 +27,11 @@ returns-3 c =
 
 pub read-reg-spec : {M : Type 1} → statement M
 read-reg-spec =
-    tie.close (tie.spec read-byte-requires enum-known-got returns enum-told returns-2 returns-3)
+    tie.close
+    (tie.spec
+    (λ c κs. search needs)
+    (λ c. search needs)
+    returns
+    (λ c. search needs)
+    returns-2
+    returns-3)

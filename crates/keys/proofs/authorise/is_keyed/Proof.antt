@@ -3,14 +3,8 @@ use borrow.Author.Needs.{needs}
 use Rattle.keys.proofs.authorise.is_keyed.Statement.{statement}
 use Rattle.keys.proofs.authorise.is_keyed.Tie as tie
 
-returns : tie.Need-returns
-returns c = search needs
-
-listed-requires : tie.Need-listed-requires
-listed-requires c κs = search needs
-
 returns-2 : tie.Need-returns-2
 returns-2 c = rw (c .before .if1 .left) (c .listed .ensures)
 
 pub is-keyed-spec : {M : Type 1} → statement M
-is-keyed-spec = tie.close (tie.spec returns listed-requires returns-2)
+is-keyed-spec = tie.close (tie.spec (λ c. search needs) (λ c κs. search needs) returns-2)

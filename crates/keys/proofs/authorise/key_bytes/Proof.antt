@@ -18,22 +18,16 @@ entries c =
     let a = c .before .before .args in
     omega (arith, at-most-one _ (both (a .write) (not (a .written))) (c .before .new-entry .ensures), at-most-one _ (not (a .read)) (c .new-entry2 .ensures))
 
-new-entry-requires : tie.Need-new-entry-requires
-new-entry-requires c κs = search needs
-
-new-entry-requires-2 : tie.Need-new-entry-requires-2
-new-entry-requires-2 c κs = search needs
-
-add-result : tie.Need-add-result
-add-result c = omega (arith, entries c)
-
-mul-result : tie.Need-mul-result
-mul-result c = omega (arith, entries c)
-
 returns : tie.Need-returns
 unfolding keyBytes
 returns c = rw (c .before .new-entry .ensures, c .new-entry2 .ensures)
 
 pub key-bytes-spec : {M : Type 1} → statement M
 key-bytes-spec =
-    tie.close (tie.spec new-entry-requires new-entry-requires-2 add-result mul-result returns)
+    tie.close
+    (tie.spec
+    (λ c κs. search needs)
+    (λ c κs. search needs)
+    (λ c. omega (arith, entries c))
+    (λ c. omega (arith, entries c))
+    returns)

@@ -2,13 +2,10 @@
 use mathlib.Core.Path.{_∙_}
 use borrow.Author.Needs.{needs}
 use Rattle.words.specs.Bytes.{num}
-use Rattle.keys.specs.Bridge.{bufs}
+use Rattle.keys.specs.Lent.{bufs}
 use Rattle.keys.specs.LoadLaws.{load-fits}
 use Rattle.keys.proofs.load.load_room.Statement.{statement}
 use Rattle.keys.proofs.load.load_room.Tie as tie
-
-room-requires : tie.Need-room-requires
-room-requires c κs = search needs
 
 returns : tie.Need-returns
 returns c =
@@ -16,4 +13,4 @@ returns c =
     λ l g ch mr mw pd ok q. c .room .ensures (a .seen .value) ∙ load-fits l g (a .c) (bufs ch (a .fetched .now) mr mw pd) ok (num (a .key .now)) (a .seen) q
 
 pub load-room-spec : {M : Type 1} → statement M
-load-room-spec = tie.close (tie.spec room-requires returns)
+load-room-spec = tie.close (tie.spec (λ c κs. search needs) returns)

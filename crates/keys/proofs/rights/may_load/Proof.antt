@@ -4,17 +4,11 @@ use borrow.Author.Needs.{needs}
 use Rattle.keys.proofs.rights.may_load.Statement.{statement}
 use Rattle.keys.proofs.rights.may_load.Tie as tie
 
-declared-requires : tie.Need-declared-requires
-declared-requires c κs = search needs
-
 returns : tie.Need-returns
 returns c = rw (sym (c .before .declared .ensures) ∙ c .if1 .taken)
-
-may-store-requires : tie.Need-may-store-requires
-may-store-requires c κs = search needs
 
 returns-2 : tie.Need-returns-2
 returns-2 c = rw (sym (c .before .before .declared .ensures) ∙ c .before .if1 .left) (c .may-store .ensures)
 
 pub may-load-spec : {M : Type 1} → statement M
-may-load-spec = tie.close (tie.spec declared-requires returns may-store-requires returns-2)
+may-load-spec = tie.close (tie.spec (λ c κs. search needs) returns (λ c κs. search needs) returns-2)

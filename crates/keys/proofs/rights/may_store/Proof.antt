@@ -4,17 +4,17 @@ use borrow.Author.Needs.{needs}
 use Rattle.keys.proofs.rights.may_store.Statement.{statement}
 use Rattle.keys.proofs.rights.may_store.Tie as tie
 
-declared-requires : tie.Need-declared-requires
-declared-requires c κs = search needs
-
 returns : tie.Need-returns
 returns c = rw (sym (c .before .declared .ensures) ∙ c .if1 .taken)
-
-has-requires : tie.Need-has-requires
-has-requires c κs = search needs
 
 returns-2 : tie.Need-returns-2
 returns-2 c = rw (sym (c .before .before .declared .ensures) ∙ c .before .if1 .left) (c .has .ensures)
 
 pub may-store-spec : {M : Type 1} → statement M
-may-store-spec = tie.close (tie.spec declared-requires returns has-requires returns-2)
+may-store-spec =
+    tie.close
+    (tie.spec
+    (λ c κs. search needs)
+    returns
+    (λ c κs. search needs)
+    returns-2)

@@ -7,10 +7,10 @@ use Rattle.keys.proofs.room.add_if.Tie as tie
 
 returns-2 : tie.Need-returns-2
 returns-2 c =
-    let p = c .before .before .before in
-    let i = p .before .before in
-    let s = i .before .before .before in
-    put-on _ _ _ (s .pre .0) _ _ _ _ (p .add .kept .0) (p .add .ensures) (not-false _ (i .if1 .left)) (s .pre .2) _ (c .counted .ensures)
+    let put = c .before .before .before in
+    let wanted = put .before .before in
+    let start = wanted .before .before .before in
+    put-on _ _ _ (start .pre .0) _ _ _ _ (put .add .kept .0) (put .add .ensures) (not-false _ (wanted .if1 .left)) (start .pre .2) _ (c .counted .ensures)
 
 pub add-if-spec : {M : Type 1} → statement M
 add-if-spec =

@@ -9,28 +9,31 @@ use Rattle.keys.proofs.room.room.Statement.{statement}
 use Rattle.keys.proofs.room.room.Tie as tie
 
 returns : tie.Need-returns
-returns c = let s = c .before .before .before in λ v. room-off _ _ _ (s .pre .0) (s .args .when) (row (num (s .args .key .now)) v) (not-true _ (c .if1 .taken))
-
-mul-at : tie.Need-mul-at
-mul-at c = search needs
-
-sub-if2 : tie.Need-sub-if2
-sub-if2 c = search needs
+returns c =
+    let start = c .before .before .before in
+    λ v. room-off _ _ _ (start .pre .0) (start .args .when) (row (num (start .args .key .now)) v) (not-true _ (c .if1 .taken))
 
 returns-2 : tie.Need-returns-2
 returns-2 c =
-    let p = c .before in
-    let s = p .before .before .before in
-    λ v. room-free _ _ _ (s .pre .0) (s .args .when) (row (num (s .args .key .now)) v) (not-false _ (p .if1 .left)) (c .if2 .taken)
-
-has-requires : tie.Need-has-requires
-has-requires c κs = search needs
+    let wanted = c .before in
+    let start = wanted .before .before .before in
+    λ v. room-free _ _ _ (start .pre .0) (start .args .when) (row (num (start .args .key .now)) v) (not-false _ (wanted .if1 .left)) (c .if2 .taken)
 
 returns-3 : tie.Need-returns-3
 returns-3 c =
-    let p = c .before .before in
-    let s = p .before .before .before in
-    λ v. c .has .ensures ∙ room-else _ _ _ (s .pre .0) (s .args .when) (row (num (s .args .key .now)) v) (not-false _ (p .if1 .left)) (c .before .if2 .left)
+    let wanted = c .before .before in
+    let start = wanted .before .before .before in
+    λ v.
+    c .has .ensures
+    ∙ room-else _ _ _ (start .pre .0) (start .args .when) (row (num (start .args .key .now)) v) (not-false _ (wanted .if1 .left)) (c .before .if2 .left)
 
 pub room-spec : {M : Type 1} → statement M
-room-spec = tie.close (tie.spec returns mul-at sub-if2 returns-2 has-requires returns-3)
+room-spec =
+    tie.close
+    (tie.spec
+    returns
+    (λ c. search needs)
+    (λ c. search needs)
+    returns-2
+    (λ c κs. search needs)
+    returns-3)

@@ -23,23 +23,20 @@ returns c = rw (c .if1 .taken)
 returns-2 : tie.Need-returns-2
 unfolding storePrice
 returns-2 c =
-    let p = c .before in
-    let a = p .before .before .before .args in
-    rw (p .if1 .left, lt-leb 8 (a .n) (c .if2 .taken)) (either-way (has (num (a .key .now)) (rows 40 (a .n) (a .changes .now))))
-
-has-requires : tie.Need-has-requires
-has-requires c κs = search needs
+    let old = c .before in
+    let a = old .before .before .before .args in
+    rw (old .if1 .left, lt-leb 8 (a .n) (c .if2 .taken)) (either-way (has (num (a .key .now)) (rows 40 (a .n) (a .changes .now))))
 
 returns-3 : tie.Need-returns-3
 unfolding storePrice
-returns-3 c = let p = c .before .before in rw (p .before .if1 .left, sym (c .before .has .ensures) ∙ c .if3 .taken)
+returns-3 c = let many = c .before .before in rw (many .before .if1 .left, sym (c .before .has .ensures) ∙ c .if3 .taken)
 
 returns-4 : tie.Need-returns-4
 unfolding storePrice
 returns-4 c =
-    let p = c .before .before in
-    let q = p .before in
-    rw (q .if1 .left, sym (c .before .has .ensures) ∙ c .if3 .left, le-leb 8 (q .before .before .before .args .n) (p .if2 .left))
+    let many = c .before .before in
+    let old = many .before in
+    rw (old .if1 .left, sym (c .before .has .ensures) ∙ c .if3 .left, le-leb 8 (old .before .before .before .args .n) (many .if2 .left))
 
 pub store-price-spec : {M : Type 1} → statement M
-store-price-spec = tie.close (tie.spec returns returns-2 has-requires returns-3 returns-4)
+store-price-spec = tie.close (tie.spec returns returns-2 (λ c κs. search needs) returns-3 returns-4)

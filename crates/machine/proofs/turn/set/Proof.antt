@@ -3,11 +3,8 @@ use borrow.Author.Needs.{needs}
 use Rattle.machine.proofs.turn.set.Statement.{statement}
 use Rattle.machine.proofs.turn.set.Tie as tie
 
-by-fields-requires : tie.Need-by-fields-requires
-by-fields-requires c κs = search needs
-
 returns : tie.Need-returns
 returns c = rw (c .by-fields .ensures)
 
 pub set-spec : {M : Type 1} → statement M
-set-spec = tie.close (tie.spec by-fields-requires returns)
+set-spec = tie.close (tie.spec (λ c κs. search needs) returns)

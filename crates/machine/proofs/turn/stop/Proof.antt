@@ -3,11 +3,8 @@ use borrow.Author.Needs.{needs}
 use Rattle.machine.proofs.turn.stop.Statement.{statement}
 use Rattle.machine.proofs.turn.stop.Tie as tie
 
-go-on-requires : tie.Need-go-on-requires
-go-on-requires c κs = search needs
-
 returns : tie.Need-returns
 returns c = rw (c .go-on .ensures)
 
 pub stop-spec : {M : Type 1} → statement M
-stop-spec = tie.close (tie.spec go-on-requires returns)
+stop-spec = tie.close (tie.spec (λ c κs. search needs) returns)

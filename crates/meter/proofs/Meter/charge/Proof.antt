@@ -11,11 +11,8 @@ over c = let a = c .before .before .args in charge-out (a .self) (a .price) (ome
 price-over : tie.Need-returns-2
 price-over c = let a = c .before .before .before .before .args in charge-out (a .self) (a .price) (omega arith)
 
-sum-fits : tie.Need-add-t4
-sum-fits c = search needs
-
 paid : tie.Need-returns-3
 paid c = charge-paid _ _ (omega arith)
 
 pub charge-spec : {M : Type 1} → statement M
-charge-spec = tie.close (tie.spec over price-over sum-fits paid)
+charge-spec = tie.close (tie.spec over price-over (λ c. search needs) paid)

@@ -8,42 +8,24 @@ use Rattle.opening.specs.OpenLaws.{genesis, too-large, searched, missing
 use Rattle.opening.proofs.entry.enter.Statement.{statement}
 use Rattle.opening.proofs.entry.enter.Tie as tie
 
-barred-requires : tie.Need-barred-requires
-barred-requires c κs = search needs
-
 returns : tie.Need-returns
-returns c = genesis _ _ _ _ _ (sym (c .before .barred .ensures) ∙ c .if1 .taken)
-
-small-requires : tie.Need-small-requires
-small-requires c κs = search needs
+returns c = genesis _ _ _ _ _ (sym (c .before .asks-for-genesis .ensures) ∙ c .if1 .taken)
 
 returns-2 : tie.Need-returns-2
 returns-2 c =
     let first = c .before .before in
-    too-large _ _ _ _ _ (sym (first .before .barred .ensures) ∙ first .if1 .left) _ (c .before .small .ensures) (not-true _ (c .if2 .taken))
+    too-large _ _ _ _ _ (sym (first .before .asks-for-genesis .ensures) ∙ first .if1 .left) _ (c .before .sizes-within-limits .ensures) (not-true _ (c .if2 .taken))
 
-only-requires : tie.Need-only-requires
-only-requires c κs = search needs
-
-enum-told : tie.Need-enum-told
-enum-told c = search needs
-
-enum-told-2 : tie.Need-enum-told-2
-enum-told-2 c = search needs
-
-enum-known-o : tie.Need-enum-known-o
-enum-known-o c = search needs
-
-begin-requires : tie.Need-begin-requires
-begin-requires c κs = search needs
+abbrev start : tie.After-unique-entry → tie.Start
+start c = c .before .before .before .before .before .before .before .before
 
 -- what the search for the entry says
-sought : (c : tie.After-only) →
-    Searched (c .before .before .before .before .before .before .before .args .call) (c .before .before .before .before .before .before .before .args .l) (c .before .before .before .before .before .before .before .args .lent) (now (c .before .before .before .before .before .before .before .args .container)) (now (c .before .before .before .before .before .before .before .args .code)) (c .only .result)
+sought : (c : tie.After-unique-entry) →
+    Searched (start c .args .call) (start c .args .l) (start c .args .lent) (now (start c .args .container)) (now (start c .args .code)) (c .unique-entry .result)
 sought c =
-    let second = c .before in
+    let second = c .before .before in
     let first = second .before .before in
-    searched _ _ _ _ _ (sym (first .before .barred .ensures) ∙ first .if1 .left) _ (second .before .small .ensures) (not-false _ (second .if2 .left)) _ (c .only .ensures)
+    searched _ _ _ _ _ (sym (first .before .asks-for-genesis .ensures) ∙ first .if1 .left) _ (second .before .sizes-within-limits .ensures) (not-false _ (second .if2 .left)) _ (c .unique-entry .ensures)
 
 returns-3 : tie.Need-returns-3
 returns-3 c = missing _ _ _ _ _ _ (sought (c .before .before)) (c .enum-told .given .1)
@@ -58,15 +40,16 @@ pub enter-spec : {M : Type 1} → statement M
 enter-spec =
     tie.close
     (tie.spec
-    barred-requires
+    (λ c κs. search needs)
     returns
-    small-requires
+    (λ c κs. search needs)
     returns-2
-    only-requires
-    enum-told
-    enum-told-2
-    enum-known-o
-    begin-requires
+    (λ c. search needs)
+    (λ c κs. search needs)
+    (λ c. search needs)
+    (λ c. search needs)
+    (λ c. search needs)
+    (λ c κs. search needs)
     returns-3
     returns-4
     returns-5)

@@ -2,20 +2,11 @@
 use mathlib.Core.Path.{_≡_, sym, _∙_}
 use denote.Ref.{now}
 use borrow.Author.Needs.{needs}
-use Rattle.tables.specs.declared.replies.Replies.{Replies}
+use Rattle.replies.specs.declared.rows.Replies.{Replies}
 use Rattle.opening.specs.Parts.{Checks}
 use Rattle.opening.specs.TableLaws.{store-bad, loader-bad, tablesBy, replied}
 use Rattle.opening.proofs.lent.check.Statement.{statement}
 use Rattle.opening.proofs.lent.check.Tie as tie
-
-check-requires : tie.Need-check-requires
-check-requires c κs = search needs
-
-enum-known-n : tie.Need-enum-known-n
-enum-known-n c = search needs
-
-enum-told : tie.Need-enum-told
-enum-told c = search needs
 
 returns : tie.Need-returns
 returns c =
@@ -23,31 +14,13 @@ returns c =
     let start = checked .before .before .before .before in
     store-bad (start .args .call) _ (now (start .args .loader)) (now (start .args .replies)) (sym (checked .check .ensures) ∙ c .enum-told .given .1)
 
-rows-of-requires : tie.Need-rows-of-requires
-rows-of-requires c κs = search needs
-
-enum-known-m : tie.Need-enum-known-m
-enum-known-m c = search needs
-
-enum-told-2 : tie.Need-enum-told-2
-enum-told-2 c = search needs
-
 returns-2 : tie.Need-returns-2
 returns-2 c =
     let looked = c .before .before in
     let stored = looked .before .before in
     let checked = stored .before .before in
     let start = checked .before .before .before .before in
-    loader-bad (start .args .call) _ _ (now (start .args .replies)) _ (sym (checked .check .ensures) ∙ stored .n .given .1) (sym (looked .rows-of .ensures) ∙ c .enum-told2 .given .1)
-
-check-replies-requires : tie.Need-check-replies-requires
-check-replies-requires c κs = search needs
-
-enum-told-3 : tie.Need-enum-told-3
-enum-told-3 c = search needs
-
-enum-told-4 : tie.Need-enum-told-4
-enum-told-4 c = search needs
+    loader-bad (start .args .call) _ _ (now (start .args .replies)) _ (sym (checked .check .ensures) ∙ stored .n .given .1) (sym (looked .check-if .ensures) ∙ c .enum-told2 .given .1)
 
 -- the replies decide
 replies-decide : (c : tie.After-check-replies) (r : Replies) → c .check-replies .result ≡ r →
@@ -59,7 +32,7 @@ replies-decide c r e =
     let stored = looked .before .before in
     let checked = stored .before .before in
     let start = checked .before .before .before .before in
-    replied (start .args .call) _ _ (now (start .args .replies)) _ (sym (checked .check .ensures) ∙ stored .n .given .1) _ (sym (looked .rows-of .ensures) ∙ loaded .m .given .1)
+    replied (start .args .call) _ _ (now (start .args .replies)) _ (sym (checked .check .ensures) ∙ stored .n .given .1) _ (sym (looked .check-if .ensures) ∙ loaded .m .given .1)
     r (sym (c .check-replies .ensures) ∙ e)
 
 returns-3 : tie.Need-returns-3
@@ -72,16 +45,16 @@ pub check-spec : {M : Type 1} → statement M
 check-spec =
     tie.close
     (tie.spec
-    check-requires
-    enum-known-n
-    enum-told
+    (λ c κs. search needs)
+    (λ c. search needs)
+    (λ c. search needs)
     returns
-    rows-of-requires
-    enum-known-m
-    enum-told-2
+    (λ c κs. search needs)
+    (λ c. search needs)
+    (λ c. search needs)
     returns-2
-    check-replies-requires
-    enum-told-3
-    enum-told-4
+    (λ c κs. search needs)
+    (λ c. search needs)
+    (λ c. search needs)
     returns-3
     returns-4)

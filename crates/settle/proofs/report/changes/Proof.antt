@@ -20,17 +20,17 @@ slice-aggregate-change-line c = sym (c .before .before .before .loop .inv .1)
 
 change-line-requires : tie.Need-change-line-requires Inv-loop μ-loop
 change-line-requires c κs =
-    let at-if1 = c .before .before in
-    let at-loop = at-if1 .before .before in
-    let start = at-loop .before .before .before .before in
+    let there = c .before .before in
+    let turn = there .before .before in
+    let start = turn .before .before .before .before in
     let t = now (start .args .t) in
-    (omega (arith, at-loop .loop .inv .1), part-length t (length t / 40) (at-loop .loop .i) (omega (arith, at-if1 .if1 .left)) (omega arith))
+    (omega (arith, turn .loop .inv .1), part-length t (length t / 40) (turn .loop .i) (omega (arith, there .if1 .left)) (omega arith))
 
 loop-again : tie.Need-loop-again Inv-loop μ-loop
 loop-again c =
-    let at-change-line = c .before .before .before in
-    let at-loop = at-change-line .before .before .before .before .before in
-    (omega arith, at-change-line .change-line .kept .0 ∙ at-loop .loop .inv .1)
+    let laid = c .before .before .before in
+    let turn = laid .before .before .before .before .before in
+    (omega arith, laid .change-line .kept .0 ∙ turn .loop .inv .1)
 
 pub changes-spec : {M : Type 1} → statement M
 changes-spec =

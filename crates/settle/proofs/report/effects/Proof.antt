@@ -13,22 +13,20 @@ Inv-loop log end n out₀ newer₀ out newer = length out ≡ 131152
 abbrev μ-loop : tie.MeasureT-loop
 μ-loop log end n out₀ newer₀ out newer = newer
 
-without-requires : tie.Need-without-requires Inv-loop μ-loop
-without-requires c κs =
-    let at-if1 = c .before .before .before .before .before in
-    omega (arith, at-if1 .if1 .left)
+end-before-newest-requires : tie.Need-end-before-newest-requires Inv-loop μ-loop
+end-before-newest-requires c κs = omega (arith, c .before .before .before .before .before .if1 .left)
 
 effect-line-requires : tie.Need-effect-line-requires Inv-loop μ-loop
 effect-line-requires c κs =
-    let at-without = c .before .before in
-    let at-if1 = at-without .before .before .before .before .before .before in
-    (omega (arith, c .before .if2 .left), omega (arith, at-without .without .ensures .0, at-if1 .if1 .left))
+    let found = c .before .before in
+    let within = found .before .before .before .before .before .before .if1 .left in
+    (omega (arith, c .before .if2 .left), omega (arith, found .end-before-newest .ensures .0, within))
 
 loop-again : tie.Need-loop-again Inv-loop μ-loop
 loop-again c =
-    let at-effect-line = c .before .before .before in
-    let at-loop = at-effect-line .before .before .before .before .before in
-    at-effect-line .effect-line .kept .0 ∙ at-loop .loop .inv
+    let laid = c .before .before .before in
+    let turn = laid .before .before .before .before .before in
+    laid .effect-line .kept .0 ∙ turn .loop .inv
 
 pub effects-spec : {M : Type 1} → statement M
 effects-spec =
@@ -42,7 +40,7 @@ effects-spec =
     (λ c κs. search needs)
     (λ c. length-replicate {A = ℕ} 131152 0)
     (λ c. omega arith)
-    without-requires
+    end-before-newest-requires
     (λ c. search needs)
     (λ c. search needs)
     effect-line-requires

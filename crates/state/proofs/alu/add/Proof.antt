@@ -6,12 +6,6 @@ use Rattle.state.specs.AluLaws.{word-fits, word-past}
 use Rattle.state.proofs.alu.add.Statement.{statement}
 use Rattle.state.proofs.alu.add.Tie as tie
 
-sub-if1 : tie.Need-sub-if1
-sub-if1 c = search needs
-
-add-t5 : tie.Need-add-t5
-add-t5 c = search needs
-
 returns : tie.Need-returns
 returns c = let a = c .before .args in word-fits (a .x + a .y) (omega arith)
 
@@ -19,4 +13,4 @@ returns-2 : tie.Need-returns-2
 returns-2 c = let a = c .before .args in word-past (a .x + a .y) (omega arith)
 
 pub add-spec : {M : Type 1} → statement M
-add-spec = tie.close (tie.spec sub-if1 add-t5 returns returns-2)
+add-spec = tie.close (tie.spec (λ c. search needs) (λ c. search needs) returns returns-2)

@@ -4,9 +4,6 @@ use Rattle.state.specs.AluLaws.{product-word, product-past}
 use Rattle.state.proofs.alu.mul.Statement.{statement}
 use Rattle.state.proofs.alu.mul.Tie as tie
 
-product-requires : tie.Need-product-requires
-product-requires c κs = search needs
-
 returns : tie.Need-returns
 returns c = search (product-word, needs)
 
@@ -14,4 +11,4 @@ returns-2 : tie.Need-returns-2
 returns-2 c = search product-past
 
 pub mul-spec : {M : Type 1} → statement M
-mul-spec = tie.close (tie.spec product-requires returns returns-2)
+mul-spec = tie.close (tie.spec (λ c κs. search needs) returns returns-2)

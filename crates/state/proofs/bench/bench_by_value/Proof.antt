@@ -5,24 +5,12 @@ use Rattle.state.specs.BenchLaws.{not-register, register-bad, register-s
 use Rattle.state.proofs.bench.bench_by_value.Statement.{statement}
 use Rattle.state.proofs.bench.bench_by_value.Tie as tie
 
-parts-of-requires : tie.Need-parts-of-requires
-parts-of-requires c κs = search needs
-
-is-register-op-requires : tie.Need-is-register-op-requires
-is-register-op-requires c κs = search needs
-
 returns : tie.Need-returns
 returns c =
     let o = c .before in
     let p = o .before in
     let a = p .before .args in
-    not-register (a .i) (a .file) (p .parts-of .result) (p .parts-of .ensures) (o .is-register-op .result) (o .is-register-op .ensures) (not-true _ (c .if1 .taken))
-
-bad-register-requires : tie.Need-bad-register-requires
-bad-register-requires c κs = search needs
-
-enum-told : tie.Need-enum-told
-enum-told c = search needs
+    not-register (a .i) (a .file) (p .opcode .result) (p .opcode .ensures) (o .is-register-op .result) (o .is-register-op .ensures) (not-true _ (c .if1 .taken))
 
 returns-2 : tie.Need-returns-2
 returns-2 c =
@@ -31,14 +19,8 @@ returns-2 c =
     let o = t .before in
     let p = o .before in
     let a = p .before .args in
-    register-bad (a .i) (a .file) (p .parts-of .result) (p .parts-of .ensures) (o .is-register-op .result) (o .is-register-op .ensures) (not-false _ (t .if1 .left))
+    register-bad (a .i) (a .file) (p .opcode .result) (p .opcode .ensures) (o .is-register-op .result) (o .is-register-op .ensures) (not-false _ (t .if1 .left))
     (b .bad-register .result) (b .bad-register .ensures) (c .enum-told .given .0 .0) (c .enum-told .given .1)
-
-enum-told-2 : tie.Need-enum-told-2
-enum-told-2 c = search needs
-
-step-requires : tie.Need-step-requires
-step-requires c κs = search needs
 
 returns-3 : tie.Need-returns-3
 returns-3 c =
@@ -48,19 +30,19 @@ returns-3 c =
     let o = t .before in
     let p = o .before in
     let a = p .before .args in
-    register-step (a .i) (a .file) (p .parts-of .result) (p .parts-of .ensures) (o .is-register-op .result) (o .is-register-op .ensures) (not-false _ (t .if1 .left))
+    register-step (a .i) (a .file) (p .opcode .result) (p .opcode .ensures) (o .is-register-op .result) (o .is-register-op .ensures) (not-false _ (t .if1 .left))
     (b .bad-register .result) (b .bad-register .ensures) (n .enum-told2 .given .1) (c .step .result) (c .step .ensures)
 
 pub bench-by-value-spec : {M : Type 1} → statement M
 bench-by-value-spec =
     tie.close
     (tie.spec
-    parts-of-requires
-    is-register-op-requires
+    (λ c κs. search needs)
+    (λ c κs. search needs)
     returns
-    bad-register-requires
-    enum-told
+    (λ c κs. search needs)
+    (λ c. search needs)
     returns-2
-    enum-told-2
-    step-requires
+    (λ c. search needs)
+    (λ c κs. search needs)
     returns-3)

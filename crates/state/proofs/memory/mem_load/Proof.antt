@@ -4,17 +4,8 @@ use Rattle.state.specs.MemoryLaws.{part-within, load-word, load-bad}
 use Rattle.state.proofs.memory.mem_load.Statement.{statement}
 use Rattle.state.proofs.memory.mem_load.Tie as tie
 
-mem-region-requires : tie.Need-mem-region-requires
-mem-region-requires c κs = search needs
-
-enum-known-place : tie.Need-enum-known-place
-enum-known-place c = search needs
-
 read-requires : tie.Need-read-requires
 read-requires c κs = search (part-within, needs)
-
-enum-told : tie.Need-enum-told
-enum-told c = search needs
 
 returns : tie.Need-returns
 returns c = search load-word
@@ -26,9 +17,9 @@ pub mem-load-spec : {M : Type 1} → statement M
 mem-load-spec =
     tie.close
     (tie.spec
-    mem-region-requires
-    enum-known-place
+    (λ c κs. search needs)
+    (λ c. search needs)
     read-requires
-    enum-told
+    (λ c. search needs)
     returns
     returns-2)

@@ -12,11 +12,8 @@ returns c = let a = c .before .args in region-outside (length (a .mem .now)) (a 
 returns-2 : tie.Need-returns-2
 returns-2 c = let a = c .before .before .args in region-outside (length (a .mem .now)) (a .offset) (a .len) (omega arith)
 
-add-end : tie.Need-add-end
-add-end c = search needs
-
 returns-3 : tie.Need-returns-3
 returns-3 c = region-part _ _ _ (omega arith)
 
 pub mem-region-spec : {M : Type 1} → statement M
-mem-region-spec = tie.close (tie.spec returns returns-2 add-end returns-3)
+mem-region-spec = tie.close (tie.spec returns returns-2 (λ c. search needs) returns-3)

@@ -4,28 +4,14 @@ use Rattle.state.specs.MemoryLaws.{part-within, store-inside, store-outs
 use Rattle.state.proofs.memory.mem_store.Statement.{statement}
 use Rattle.state.proofs.memory.mem_store.Tie as tie
 
-mem-region-requires : tie.Need-mem-region-requires
-mem-region-requires c κs = search needs
-
-enum-known-region : tie.Need-enum-known-region
-enum-known-region c = search needs
-
 write-requires : tie.Need-write-requires
 write-requires c κs = search part-within
 
-enum-told : tie.Need-enum-told
-enum-told c = search needs
-
-same-length : tie.Need-same-length
-same-length c = search needs
-
 returns : tie.Need-returns
 returns c =
-    let p = c .before .before .before .before .before in
-    store-inside _ _ _ _ _ _ _ (p .before .before .mem-region .ensures) (p .region .given .1) (c .before .before .write .ensures)
-
-same-length-2 : tie.Need-same-length-2
-same-length-2 c = search needs
+    let laid = c .before .before in
+    let found = laid .before .before .before in
+    store-inside _ _ _ _ _ _ _ (found .before .before .mem-region .ensures) (found .region .given .1) (laid .write .ensures)
 
 returns-2 : tie.Need-returns-2
 returns-2 c = store-outside _ _ _ _ (c .before .before .mem-region .ensures) (c .enum-told .given .1)
@@ -34,11 +20,11 @@ pub mem-store-spec : {M : Type 1} → statement M
 mem-store-spec =
     tie.close
     (tie.spec
-    mem-region-requires
-    enum-known-region
+    (λ c κs. search needs)
+    (λ c. search needs)
     write-requires
-    enum-told
-    same-length
+    (λ c. search needs)
+    (λ c. search needs)
     returns
-    same-length-2
+    (λ c. search needs)
     returns-2)

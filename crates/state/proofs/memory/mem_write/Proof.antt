@@ -4,28 +4,14 @@ use Rattle.state.specs.MemoryLaws.{part-within, write-inside, write-outs
 use Rattle.state.proofs.memory.mem_write.Statement.{statement}
 use Rattle.state.proofs.memory.mem_write.Tie as tie
 
-mem-region-requires : tie.Need-mem-region-requires
-mem-region-requires c κs = search needs
-
-enum-known-region : tie.Need-enum-known-region
-enum-known-region c = search needs
-
 copy-in-requires : tie.Need-copy-in-requires
 copy-in-requires c κs = search part-within
 
-enum-told : tie.Need-enum-told
-enum-told c = search needs
-
-same-length : tie.Need-same-length
-same-length c = search needs
-
 returns : tie.Need-returns
 returns c =
-    let p = c .before .before .before .before .before in
-    write-inside _ _ _ _ _ _ _ (p .before .before .mem-region .ensures) (p .region .given .1) (c .before .before .copy-in .ensures)
-
-same-length-2 : tie.Need-same-length-2
-same-length-2 c = search needs
+    let laid = c .before .before in
+    let found = laid .before .before .before in
+    write-inside _ _ _ _ _ _ _ (found .before .before .mem-region .ensures) (found .region .given .1) (laid .copy-in .ensures)
 
 returns-2 : tie.Need-returns-2
 returns-2 c = write-outside _ _ _ _ (c .before .before .mem-region .ensures) (c .enum-told .given .1)
@@ -34,11 +20,11 @@ pub mem-write-spec : {M : Type 1} → statement M
 mem-write-spec =
     tie.close
     (tie.spec
-    mem-region-requires
-    enum-known-region
+    (λ c κs. search needs)
+    (λ c. search needs)
     copy-in-requires
-    enum-told
-    same-length
+    (λ c. search needs)
+    (λ c. search needs)
     returns
-    same-length-2
+    (λ c. search needs)
     returns-2)

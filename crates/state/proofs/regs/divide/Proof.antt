@@ -4,15 +4,6 @@ use Rattle.state.specs.RegsLaws.{divide-zero, divide-done, not-zero}
 use Rattle.state.proofs.regs.divide.Statement.{statement}
 use Rattle.state.proofs.regs.divide.Tie as tie
 
-pair-requires : tie.Need-pair-requires
-pair-requires c κs = search needs
-
-pair-requires-2 : tie.Need-pair-requires-2
-pair-requires-2 c κs = search needs
-
-is-zero-requires : tie.Need-is-zero-requires
-is-zero-requires c κs = search needs
-
 returns : tie.Need-returns
 returns c = search divide-zero
 
@@ -26,9 +17,9 @@ pub divide-spec : {M : Type 1} → statement M
 divide-spec =
     tie.close
     (tie.spec
-    pair-requires
-    pair-requires-2
-    is-zero-requires
+    (λ c κs. search needs)
+    (λ c κs. search needs)
+    (λ c κs. search needs)
     returns
     divide-wide-requires
     returns-2)

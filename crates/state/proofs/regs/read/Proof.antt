@@ -4,17 +4,14 @@ use Rattle.state.specs.RegsLaws.{read-past}
 use Rattle.state.proofs.regs.read.Statement.{statement}
 use Rattle.state.proofs.regs.read.Tie as tie
 
-mul-result : tie.Need-mul-result
-mul-result c = search needs
-
-shared-slice-read-result : tie.Need-shared-slice-read-result
-shared-slice-read-result c = search needs
-
-returns : tie.Need-returns
-returns c = search needs
-
 returns-2 : tie.Need-returns-2
 returns-2 c = search read-past
 
 pub read-spec : {M : Type 1} → statement M
-read-spec = tie.close (tie.spec mul-result shared-slice-read-result returns returns-2)
+read-spec =
+    tie.close
+    (tie.spec
+    (λ c. search needs)
+    (λ c. search needs)
+    (λ c. search needs)
+    returns-2)

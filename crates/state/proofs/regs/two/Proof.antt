@@ -4,21 +4,6 @@ use Rattle.state.specs.RegsLaws.{two-done, two-fault}
 use Rattle.state.proofs.regs.two.Statement.{statement}
 use Rattle.state.proofs.regs.two.Tie as tie
 
-read-requires : tie.Need-read-requires
-read-requires c κs = search needs
-
-read-requires-2 : tie.Need-read-requires-2
-read-requires-2 c κs = search needs
-
-alu-requires : tie.Need-alu-requires
-alu-requires c κs = search needs
-
-enum-known-v : tie.Need-enum-known-v
-enum-known-v c = search needs
-
-enum-known-v-2 : tie.Need-enum-known-v-2
-enum-known-v-2 c = search needs
-
 returns : tie.Need-returns
 returns c = search two-done
 
@@ -29,10 +14,10 @@ pub two-spec : {M : Type 1} → statement M
 two-spec =
     tie.close
     (tie.spec
-    read-requires
-    read-requires-2
-    alu-requires
-    enum-known-v
-    enum-known-v-2
+    (λ c κs. search needs)
+    (λ c κs. search needs)
+    (λ c κs. search needs)
+    (λ c. search needs)
+    (λ c. search needs)
     returns
     returns-2)

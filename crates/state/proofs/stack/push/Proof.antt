@@ -7,20 +7,16 @@ use Rattle.state.proofs.stack.push.Tie as tie
 returns : tie.Need-returns
 returns c = let a = c .before .args in push-full (a .stack .now) (a .depth) (a .v) (c .if1 .taken)
 
-mul-stack : tie.Need-mul-stack
-mul-stack c = search needs
-
-slice-write-stack : tie.Need-slice-write-stack
-slice-write-stack c = search needs
-
-add-t4 : tie.Need-add-t4
-add-t4 c = search needs
-
-same-length : tie.Need-same-length
-same-length c = search needs
-
 returns-2 : tie.Need-returns-2
 returns-2 c = search (push-room, needs)
 
 pub push-spec : {M : Type 1} → statement M
-push-spec = tie.close (tie.spec returns mul-stack slice-write-stack add-t4 same-length returns-2)
+push-spec =
+    tie.close
+    (tie.spec
+    returns
+    (λ c. search needs)
+    (λ c. search needs)
+    (λ c. search needs)
+    (λ c. search needs)
+    returns-2)

@@ -9,10 +9,10 @@ use borrow.Author.Needs.{needs}
 use Rattle.tables.specs.Rows.{rows, Row}
 use Rattle.tables.specs.Order.{orderOf}
 use Rattle.tables.specs.Checked.{risingb}
-use Rattle.tables.specs.SortedLaws.{at}
+use Rattle.tables.specs.Walks.{at, Adjacent}
 use Rattle.tables.specs.LayoutLaws.{rows-length, key-at, row-ends}
 use Rattle.tables.specs.OrderLaws.{less-is, equal-is, greater-is}
-use Rattle.tables.specs.CheckLaws.{Adjacent, adjacent-more, adjacent-all, adjacent-not}
+use Rattle.tables.specs.CheckLaws.{adjacent-more, adjacent-all, adjacent-not}
 use Rattle.tables.proofs.check.rising.Statement.{statement}
 use Rattle.tables.proofs.check.rising.Tie as tie
 
@@ -23,7 +23,8 @@ abbrev μ-loop : tie.MeasureT-loop
 μ-loop t n w i₀ i = n - i
 
 -- in a turn: rows i - 1 and i lie within
-ends : (c : tie.In-loop Inv-loop μ-loop) → let a = c .before .before .before .args in let i = c .before .loop .i in (a .w ≤ i * a .w) × (i * a .w + a .w ≤ a .n * a .w)
+ends : (c : tie.In-loop Inv-loop μ-loop) → let a = c .before .before .before .args in let i = c .before .loop .i in
+    (a .w ≤ i * a .w) × (i * a .w + a .w ≤ a .n * a .w)
 ends c =
     let a = c .before .before .before .args in
     let i = c .before .loop .i in
@@ -39,79 +40,38 @@ start c = turn c .before .before .before
 abbrev i : tie.After-compare Inv-loop μ-loop → ℕ
 i c = turn c .before .loop .i
 
-abbrev R : tie.After-compare Inv-loop μ-loop → List Row
-R c = rows (start c .args .w) (start c .args .n) (start c .args .t .now)
+abbrev table : tie.After-compare Inv-loop μ-loop → List Row
+table c = rows (start c .args .w) (start c .args .n) (start c .args .t .now)
 
-told : (c : tie.After-compare Inv-loop μ-loop) → c .compare .result ≡ orderOf (at (R c) (i c - 1)) (at (R c) (i c))
+told : (c : tie.After-compare Inv-loop μ-loop) → c .compare .result ≡ orderOf (at (table c) (i c - 1)) (at (table c) (i c))
 told c =
     let a = start c .args in
     let k = key-at (a .w) (a .n) (i c) (a .t .now) (omega arith) in
     let j = key-at (a .w) (a .n) (i c - 1) (a .t .now) (omega arith) in
-    let e : (i c - 1) * a .w ≡ i c * a .w - a .w = let q : i c ≡ suc (i c - 1) = omega arith in omega (arith, suc-mul (i c - 1) (a .w), ap (λ (j : ℕ). j * a .w) q) in
+    let q : i c ≡ suc (i c - 1) = omega arith in
+    let e : (i c - 1) * a .w ≡ i c * a .w - a .w = omega (arith, suc-mul (i c - 1) (a .w), ap (λ (j : ℕ). j * a .w) q) in
     rw (k, j, e) (rw (add-sub-cancel-left (i c * a .w) 32, add-sub-cancel-left (i c * a .w - a .w) 32) at (c .compare .ensures))
 
-fails : (c : tie.After-compare Inv-loop μ-loop) → at (R c) (i c) ≤ at (R c) (i c - 1) → false ≡ risingb 0 (R c)
-fails c h = sym (adjacent-not (R c) _ (i c) (i c - 1) (rows-length _ _ _) (omega arith) (turn c .loop-test .taken) h)
+fails : (c : tie.After-compare Inv-loop μ-loop) → at (table c) (i c) ≤ at (table c) (i c - 1) → false ≡ risingb 0 (table c)
+fails c h = sym (adjacent-not (table c) _ (i c) (i c - 1) (rows-length _ _ _) (omega arith) (turn c .loop-test .taken) h)
 
 loop-holds : tie.Need-loop-holds Inv-loop μ-loop
 loop-holds c = (omega arith, λ p h. absurd (omega arith))
 
-mul-at : tie.Need-mul-at Inv-loop μ-loop
-mul-at c = omega (arith, ends c)
-
-add-end : tie.Need-add-end Inv-loop μ-loop
-add-end c = omega (arith, ends c)
-
-sub-from : tie.Need-sub-from Inv-loop μ-loop
-sub-from c = omega (arith, ends c)
-
-add-to : tie.Need-add-to Inv-loop μ-loop
-add-to c = omega (arith, ends c)
-
-sub-compare : tie.Need-sub-compare Inv-loop μ-loop
-sub-compare c = omega (arith, ends c)
-
-part-compare-start : tie.Need-part-compare-start Inv-loop μ-loop
-part-compare-start c = omega (arith, ends c)
-
-part-compare-end : tie.Need-part-compare-end Inv-loop μ-loop
-part-compare-end c = omega (arith, ends c)
-
-sub-compare-2 : tie.Need-sub-compare-2 Inv-loop μ-loop
-sub-compare-2 c = omega arith
-
-part-compare-start-2 : tie.Need-part-compare-start-2 Inv-loop μ-loop
-part-compare-start-2 c = omega arith
-
-part-compare-end-2 : tie.Need-part-compare-end-2 Inv-loop μ-loop
-part-compare-end-2 c = omega (arith, ends (c .before))
-
 compare-requires : tie.Need-compare-requires Inv-loop μ-loop
 compare-requires c κs = (omega (arith, ends (c .before .before)), omega (arith, ends (c .before .before)))
 
-enum-told : tie.Need-enum-told Inv-loop μ-loop
-enum-told c = search needs
-
-add-i : tie.Need-add-i Inv-loop μ-loop
-add-i c = omega arith
-
-loop-less : tie.Need-loop-less Inv-loop μ-loop
-loop-less c = omega arith
-
 loop-again : tie.Need-loop-again Inv-loop μ-loop
-loop-again c = let d = c .before .before in (omega arith, adjacent-more _ _ (i d - 1) (omega arith) (turn d .before .loop .inv .1) (less-is _ _ (sym (told d) ∙ c .enum-told .given .1)))
-
-enum-told-2 : tie.Need-enum-told-2 Inv-loop μ-loop
-enum-told-2 c = search needs
+loop-again c =
+    let compared = c .before .before in
+    let less = less-is _ _ (sym (told compared) ∙ c .enum-told .given .1) in
+    (omega arith, adjacent-more _ _ (i compared - 1) (omega arith) (turn compared .before .loop .inv .1) less)
 
 returns : tie.Need-returns Inv-loop μ-loop
-returns c = let d = c .before .before in fails d (omega (arith, equal-is _ _ (sym (told d) ∙ c .enum-told2 .given .1)))
-
-enum-told-3 : tie.Need-enum-told-3 Inv-loop μ-loop
-enum-told-3 c = search needs
+returns c = let compared = c .before .before in fails compared (omega (arith, equal-is _ _ (sym (told compared) ∙ c .enum-told2 .given .1)))
 
 returns-2 : tie.Need-returns-2 Inv-loop μ-loop
-returns-2 c = let d = c .before .before in fails d (omega (arith, greater-is _ _ (sym (told d) ∙ c .enum-told3 .given .1)))
+returns-2 c = let compared = c .before .before in fails compared (omega (arith, greater-is _ _ (sym (told compared) ∙ c .enum-told3 .given .1)))
 
 returns-3 : tie.Need-returns-3 Inv-loop μ-loop
 returns-3 c = sym (adjacent-all _ _ (c .before .loop .i) (rows-length _ _ _) (c .loop-test .left) (c .before .loop .inv .1))
@@ -123,23 +83,23 @@ rising-spec =
     Inv-loop
     μ-loop
     loop-holds
-    mul-at
-    add-end
-    sub-from
-    add-to
-    sub-compare
-    part-compare-start
-    part-compare-end
-    sub-compare-2
-    part-compare-start-2
-    part-compare-end-2
+    (λ c. omega (arith, ends c))
+    (λ c. omega (arith, ends c))
+    (λ c. omega (arith, ends c))
+    (λ c. omega (arith, ends c))
+    (λ c. omega (arith, ends c))
+    (λ c. omega (arith, ends c))
+    (λ c. omega (arith, ends c))
+    (λ c. omega arith)
+    (λ c. omega arith)
+    (λ c. omega (arith, ends (c .before)))
     compare-requires
-    enum-told
-    add-i
-    loop-less
+    (λ c. search needs)
+    (λ c. omega arith)
+    (λ c. omega arith)
     loop-again
-    enum-told-2
+    (λ c. search needs)
     returns
-    enum-told-3
+    (λ c. search needs)
     returns-2
     returns-3)

@@ -15,38 +15,39 @@ use Rattle.tables.proofs.rows.get.Tie as tie
 abbrev row : tie.After-known-told → ℕ
 row c = c .before .f .given .0 .0
 
-abbrev S : tie.After-known-told → tie.Start
-S c = c .before .before .before .before .before .before
+abbrev start : tie.After-find → tie.Start
+start c = c .before .before .before
 
-told : (c : tie.After-known-told) → find (num (S c .args .key .now)) (rows 40 (S c .args .n) (S c .args .t .now)) ≡ At (row c)
+abbrev asked : tie.After-known-told → tie.Start
+asked c = start (c .before .before .before)
+
+told : (c : tie.After-known-told) → let a = asked c .args in find (num (a .key .now)) (rows 40 (a .n) (a .t .now)) ≡ At (row c)
 told c = sym (c .before .before .before .find .ensures) ∙ c .before .f .given .1
 
-within : (c : tie.After-known-told) → row c * 40 + 40 ≤ length (S c .args .t .now)
-within c = let a = S c .args in omega (arith, found-row (num (a .key .now)) (a .n) (row c) (a .t .now) (told c), S c .pre .0 .fits)
-
-find-requires : tie.Need-find-requires
-find-requires c κs = search needs
-
-enum-known-f : tie.Need-enum-known-f
-enum-known-f c = search needs
-
-mul-at : tie.Need-mul-at
-mul-at c = omega (arith, within c)
-
-add-at : tie.Need-add-at
-add-at c = omega (arith, within c)
-
-read-requires : tie.Need-read-requires
-read-requires c κs = (omega (arith, within c), omega arith)
-
-enum-told : tie.Need-enum-told
-enum-told c = search needs
+within : (c : tie.After-known-told) → row c * 40 + 40 ≤ length (asked c .args .t .now)
+within c = let a = asked c .args in omega (arith, found-row (num (a .key .now)) (a .n) (row c) (a .t .now) (told c), asked c .pre .0 .fits)
 
 returns : tie.Need-returns
-returns c = let d = c .before in let a = S d .args in got-value (num (a .key .now)) (a .n) (row d) (a .t .now) (c .read .result) (told d) (c .read .ensures)
+returns c =
+    let found = c .before in
+    let a = asked found .args in
+    got-value (num (a .key .now)) (a .n) (row found) (a .t .now) (c .read .result) (told found) (c .read .ensures)
 
 returns-2 : tie.Need-returns-2
-returns-2 c = let a = c .before .before .before .before .before .args in got-nothing (num (a .key .now)) (a .n) _ (a .t .now) (sym (c .before .before .find .ensures) ∙ c .enum-told .given .1)
+returns-2 c =
+    let sought = c .before .before in
+    let a = start sought .args in
+    got-nothing (num (a .key .now)) (a .n) _ (a .t .now) (sym (sought .find .ensures) ∙ c .enum-told .given .1)
 
 pub get-spec : {M : Type 1} → statement M
-get-spec = tie.close (tie.spec find-requires enum-known-f mul-at add-at read-requires enum-told returns returns-2)
+get-spec =
+    tie.close
+    (tie.spec
+    (λ c κs. search needs)
+    (λ c. search needs)
+    (λ c. omega (arith, within c))
+    (λ c. omega (arith, within c))
+    (λ c κs. (omega (arith, within c), omega arith))
+    (λ c. search needs)
+    returns
+    returns-2)

@@ -5,16 +5,13 @@ use Rattle.tables.proofs.store.add.Statement.{statement}
 use Rattle.tables.proofs.store.add.Tie as tie
 
 insert-requires : tie.Need-insert-requires
-insert-requires c κs = let s = c .before .before .before in rw (s .pre .1) (s .pre .0)
-
-same-length : tie.Need-same-length
-same-length c = search needs
+insert-requires c κs = let start = c .before .before .before in rw (start .pre .1) (start .pre .0)
 
 returns : tie.Need-returns
 returns c =
-    let i = c .before .before in
-    let s = i .before .before .before .before in
-    as-row 32 (s .args .n) _ _ _ (s .args .key .now) _ (s .pre .1) (set-row (s .args .key .now) (s .pre .1)) (i .insert .ensures)
+    let inserted = c .before .before in
+    let start = inserted .before .before .before .before in
+    as-row 32 (start .args .n) _ _ _ (start .args .key .now) _ (start .pre .1) (set-row (start .args .key .now) (start .pre .1)) (inserted .insert .ensures)
 
 pub add-spec : {M : Type 1} → statement M
-add-spec = tie.close (tie.spec insert-requires same-length returns)
+add-spec = tie.close (tie.spec insert-requires (λ c. search needs) returns)

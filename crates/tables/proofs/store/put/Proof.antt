@@ -8,52 +8,35 @@ use Rattle.tables.specs.MadeLaws.{map-made, as-row}
 use Rattle.tables.proofs.store.put.Statement.{statement}
 use Rattle.tables.proofs.store.put.Tie as tie
 
-abbrev S : tie.After-write → tie.Start
-S c = c .before .before .before .before .before .before .before
+abbrev start : tie.After-write → tie.Start
+start c = c .before .before .before .before .before .before .before
 
 -- the row that was made
-made : (c : tie.After-write) → (length (c .write .last .0) ≡ 40) × (rowOf 40 (c .write .last .0) ≡ record { key = num (S c .args .key .now); value = S c .args .v })
+made : (c : tie.After-write) → let a = start c .args in
+    (length (c .write .last .0) ≡ 40) × (rowOf 40 (c .write .last .0) ≡ record { key = num (a .key .now); value = a .v })
 made c =
-    let k = c .before .before .before in
-    let s = S c in
-    map-made _ (s .args .key .now) (k .copy-in .last .0) _ (s .args .v) (search needs) (s .pre .1) (s .fits .v .fits) (k .copy-in .ensures) (c .write .ensures)
-
-slice-aggregate-copy-in : tie.Need-slice-aggregate-copy-in
-slice-aggregate-copy-in c = search needs
-
-copy-in-requires : tie.Need-copy-in-requires
-copy-in-requires c κs = search needs
-
-slice-aggregate-write : tie.Need-slice-aggregate-write
-slice-aggregate-write c = search needs
-
-write-requires : tie.Need-write-requires
-write-requires c κs = search needs
-
-slice-aggregate-insert : tie.Need-slice-aggregate-insert
-slice-aggregate-insert c = search needs
+    let copied = c .before .before .before .copy-in in
+    let s = start c in
+    map-made _ (s .args .key .now) (copied .last .0) _ (s .args .v) (search needs) (s .pre .1) (s .fits .v .fits) (copied .ensures) (c .write .ensures)
 
 insert-requires : tie.Need-insert-requires
-insert-requires c κs = let m = c .before .before .before in rw (made m .0) (S m .pre .0)
-
-same-length : tie.Need-same-length
-same-length c = search needs
+insert-requires c κs = let written = c .before .before .before in rw (made written .0) (start written .pre .0)
 
 returns : tie.Need-returns
 returns c =
-    let i = c .before .before in
-    let m = i .before .before .before .before in
-    as-row 40 (S m .args .n) _ _ _ _ _ (made m .0) (made m .1) (i .insert .ensures)
+    let inserted = c .before .before in
+    let written = inserted .before .before .before .before in
+    as-row 40 (start written .args .n) _ _ _ _ _ (made written .0) (made written .1) (inserted .insert .ensures)
 
 pub put-spec : {M : Type 1} → statement M
 put-spec =
     tie.close
     (tie.spec
-    slice-aggregate-copy-in
-    copy-in-requires
-    slice-aggregate-write
-    write-requires
-    slice-aggregate-insert
+    (λ c. search needs)
+    (λ c κs. search needs)
+    (λ c. search needs)
+    (λ c κs. search needs)
+    (λ c. search needs)
     insert-requires
-    same-length
+    (λ c. search needs)
     returns)

@@ -16,22 +16,9 @@ abbrev μ-loop : tie.MeasureT-loop
 μ-loop t₀ from to by i₀ t i = i
 
 loop-holds : tie.Need-loop-holds Inv-loop μ-loop
-loop-holds c = let a = c .args in (omega arith, omega arith, paste-none (a .t .now) (drop (a .to) (a .t .now)) (a .to + a .by) (a .to - a .to) (omega arith), refl)
-
-sub-i : tie.Need-sub-i Inv-loop μ-loop
-sub-i c = omega arith
-
-slice-read-x : tie.Need-slice-read-x Inv-loop μ-loop
-slice-read-x c = omega arith
-
-add-t : tie.Need-add-t Inv-loop μ-loop
-add-t c = omega arith
-
-slice-write-t : tie.Need-slice-write-t Inv-loop μ-loop
-slice-write-t c = omega arith
-
-loop-less : tie.Need-loop-less Inv-loop μ-loop
-loop-less c = omega arith
+loop-holds c =
+    let a = c .args in
+    (omega arith, omega arith, paste-none (a .t .now) (drop (a .to) (a .t .now)) (a .to + a .by) (a .to - a .to) (omega arith), refl)
 
 loop-again : tie.Need-loop-again Inv-loop μ-loop
 loop-again c =
@@ -51,11 +38,11 @@ shift-up-spec =
     Inv-loop
     μ-loop
     loop-holds
-    sub-i
-    slice-read-x
-    add-t
-    slice-write-t
-    loop-less
+    (λ c. omega arith)
+    (λ c. omega arith)
+    (λ c. omega arith)
+    (λ c. omega arith)
+    (λ c. omega arith)
     loop-again
     same-length
     returns)

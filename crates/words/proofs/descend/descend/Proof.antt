@@ -26,50 +26,42 @@ mul-hi c = fits-le (c .before .loop .inv .2) (fits-bits 64 tt (search needs))
 sub-hi : tie.Need-sub-hi Inv-loop μ-loop
 sub-hi c = c .before .before .loop .inv .2
 
-product-requires : tie.Need-product-requires Inv-loop μ-loop
-product-requires c κs = tt
-
-at-most-requires : tie.Need-at-most-requires Inv-loop μ-loop
-at-most-requires c κs = tt
-
 -- the turn's beginning, from where it has its product
 abbrev turn : tie.After-product Inv-loop μ-loop → tie.At-loop Inv-loop μ-loop
-turn p = p .before .before .before
+turn multiplied = multiplied .before .before .before
 
 minus-requires : tie.Need-minus-requires Inv-loop μ-loop
 minus-requires c κs =
-    let p = c .before .before in
-    let l = turn p in
-    let a = l .before .args in
-    leb-true (wide (p .product .result)) (left (a .n) (a .d) (l .loop .e)) (sym (c .before .at-most .ensures) ∙ c .if1 .taken)
+    let multiplied = c .before .before in
+    let head = turn multiplied in
+    let a = head .before .args in
+    leb-true (wide (multiplied .product .result)) (left (a .n) (a .d) (head .loop .e)) (sym (c .before .at-most .ensures) ∙ c .if1 .taken)
 
 returns : tie.Need-returns Inv-loop μ-loop
 returns c =
-    let p = c .before .before .before in
-    let l = turn p in
-    let a = l .before .args in
-    ends (a .n) (a .d) (l .loop .e) (wide (p .product .result)) (wide (c .minus .result)) (l .loop .inv) (p .product .ensures) (c .minus .ensures)
+    let multiplied = c .before .before .before in
+    let head = turn multiplied in
+    let a = head .before .args in
+    ends (a .n) (a .d) (head .loop .e) (wide (multiplied .product .result)) (wide (c .minus .result)) (head .loop .inv) (multiplied .product .ensures)
+    (c .minus .ensures)
 
 -- where the test fails, the estimate is above the quotient
-too-large : (c : tie.Else1 Inv-loop μ-loop) → let l = turn (c .before .before) in let a = l .before .args in wide (a .n) / wide (a .d) < l .loop .e
+too-large : (c : tie.Else1 Inv-loop μ-loop) → let head = turn (c .before .before) in let a = head .before .args in wide (a .n) / wide (a .d) < head .loop .e
 too-large c =
-    let p = c .before .before in
-    let l = turn p in
-    let a = l .before .args in
-    above (a .n) (a .d) (l .loop .e) (wide (p .product .result)) (l .loop .inv) (p .product .ensures)
-    (leb-false (wide (p .product .result)) (left (a .n) (a .d) (l .loop .e)) (sym (c .before .at-most .ensures) ∙ c .if1 .left))
+    let multiplied = c .before .before in
+    let head = turn multiplied in
+    let a = head .before .args in
+    above (a .n) (a .d) (head .loop .e) (wide (multiplied .product .result)) (head .loop .inv) (multiplied .product .ensures)
+    (leb-false (wide (multiplied .product .result)) (left (a .n) (a .d) (head .loop .e)) (sym (c .before .at-most .ensures) ∙ c .if1 .left))
 
 sub-e : tie.Need-sub-e Inv-loop μ-loop
 sub-e c = above-some (too-large c)
 
-loop-less : tie.Need-loop-less Inv-loop μ-loop
-loop-less c = omega (arith, too-large c)
-
 loop-again : tie.Need-loop-again Inv-loop μ-loop
 loop-again c =
-    let l = turn (c .before .before) in
-    let a = l .before .args in
-    comes-down (a .n) (a .d) (l .loop .e) (l .loop .inv) (too-large c)
+    let head = turn (c .before .before) in
+    let a = head .before .args in
+    comes-down (a .n) (a .d) (head .loop .e) (head .loop .inv) (too-large c)
 
 pub descend-spec : {M : Type 1} → statement M
 descend-spec =
@@ -80,10 +72,10 @@ descend-spec =
     loop-holds
     mul-hi
     sub-hi
-    product-requires
-    at-most-requires
+    (λ c κs. tt)
+    (λ c κs. tt)
     minus-requires
     returns
     sub-e
-    loop-less
+    (λ c. omega (arith, too-large c))
     loop-again)

@@ -1,49 +1,39 @@
 -- `words::divide::by_wide` meets its contract: the quotient of the upper words is an estimate. Assumes nothing.
-use mathlib.Core.Path.{refl}
-use Prim.Native.Nat.{_/_, _<_}
+use Prim.Native.Nat.{_/_, _^_, _≤_, _<_}
+use native.Mathlib.Omega.{arith}
+use lib.Count.{leadingZeros}
 use borrow.Author.Needs.{needs}
 use Rattle.words.specs.Wide.{wide}
 use Rattle.words.proofs.Words.{Estimate}
-use Rattle.words.proofs.divide.Laws.{by-upper}
+use Rattle.words.proofs.divide.Laws.{normal, by-upper}
 use Rattle.words.proofs.divide.by_wide.Statement.{statement}
 use Rattle.words.proofs.divide.by_wide.Tie as tie
 
-add-m : tie.Need-add-m
-add-m c = search needs
-
-div-m : tie.Need-div-m
-div-m c = search needs
-
-upper-requires : tie.Need-upper-requires
-upper-requires c κs = search needs
-
-upper-requires-2 : tie.Need-upper-requires-2
-upper-requires-2 c κs = search needs
+few : (c : tie.Start) → leadingZeros 64 (c .args .d .hi) < 64
+few c = normal (c .args .d .hi) (c .pre) (search needs) .0
 
 -- what the upper words of n and d give
-uppers : (c : tie.After-upper2) → let u = c .upper2 .result in let v = c .before .upper .result in let a = c .before .before .before .args in (u .hi < v .lo) × (Estimate (a .n) (a .d) (wide u / v .lo))
+uppers : (c : tie.After-upper2) → let u = c .upper2 .result in let v = c .before .upper .result in let a = c .before .before .before .args in
+    (2 ^ 32 ≤ v .lo) × (u .hi < v .lo) × (Estimate (a .n) (a .d) (wide u / v .lo))
 uppers c =
     let v = c .before .upper in
-    let s = c .before .before .before in
-    by-upper (s .args .n) (s .args .d) (c .upper2 .result) (v .result) _ (s .pre) (search needs) (search needs) (search needs) (search needs) refl (c .upper2 .ensures) (v .ensures)
+    let start = c .before .before .before in
+    by-upper (start .args .n) (start .args .d) (c .upper2 .result) (v .result) (start .pre)
+    (search needs) (search needs) (search needs) (search needs) (c .upper2 .ensures) (v .ensures)
 
-two-by-one-requires : tie.Need-two-by-one-requires
-two-by-one-requires c κs = uppers c .0
+by-large-requires : tie.Need-by-large-requires
+by-large-requires c κs = let h = uppers c in (h .0, h .1)
 
 descend-requires : tie.Need-descend-requires
-descend-requires c κs = rw (c .two-by-one .ensures) (uppers (c .before) .1)
-
-returns : tie.Need-returns
-returns c = search needs
+descend-requires c κs = rw (c .by-large .ensures) (uppers (c .before) .2)
 
 pub by-wide-spec : {M : Type 1} → statement M
 by-wide-spec =
     tie.close
     (tie.spec
-    add-m
-    div-m
-    upper-requires
-    upper-requires-2
-    two-by-one-requires
+    (λ c. omega (arith, few (c .before)))
+    (λ c κs. few (c .before))
+    (λ c κs. few (c .before .before))
+    by-large-requires
     descend-requires
-    returns)
+    (λ c. search needs))

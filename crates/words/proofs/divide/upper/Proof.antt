@@ -1,21 +1,26 @@
 -- `words::divide::upper` meets its contract: what it leaves out is the product's lowest word. Assumes nothing.
+use mir.Facts.{fits-bits}
 use borrow.Author.Needs.{needs}
-use Rattle.words.specs.Wide.{wide}
-use Rattle.words.proofs.divide.Laws.{upper-words}
+use Rattle.words.proofs.divide.Laws.{upper-fits, upper-words}
 use Rattle.words.proofs.divide.upper.Statement.{statement}
 use Rattle.words.proofs.divide.upper.Tie as tie
 
-product-requires : tie.Need-product-requires
-product-requires c κs = search needs
-
-product-plus-requires : tie.Need-product-plus-requires
-product-plus-requires c κs = search needs
+add : tie.Need-add-t5
+add c =
+    let high = c .before .before in
+    let low = high .before in
+    let start = low .before in
+    let a = start .args in
+    fits-bits 64 tt
+    (upper-fits (a .n .lo) (a .n .hi) (a .s) (low .shifted .result) (high .shifted2 .result) (start .pre)
+    (search needs) (search needs) (low .shifted .ensures) (high .shifted2 .ensures))
 
 returns : tie.Need-returns
 returns c =
-    let p = c .before in
-    let a = p .before .args in
-    upper-words (a .n) (a .m) (p .product .result) (wide (c .product-plus .result)) (search needs) (p .product .ensures) (c .product-plus .ensures)
+    let high = c .before .before in
+    let low = high .before in
+    let start = low .before in
+    upper-words (start .args .n) _ (low .shifted .result) (high .shifted2 .result) (search needs) (low .shifted .ensures) (high .shifted2 .ensures)
 
 pub upper-spec : {M : Type 1} → statement M
-upper-spec = tie.close (tie.spec product-requires product-plus-requires returns)
+upper-spec = tie.close (tie.spec (λ c κs. search needs) (λ c κs. search needs) add returns)

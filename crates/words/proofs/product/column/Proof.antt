@@ -9,17 +9,5 @@ use Rattle.words.proofs.product.column.Tie as tie
 within : (c : tie.Start) → c .args .a * c .args .b ≤ (2 ^ 32 - 1) * (2 ^ 32 - 1)
 within c = room (c .args .a) (c .args .b) (c .pre .0) (c .pre .1)
 
-mul-result : tie.Need-mul-result
-mul-result c = omega (arith, within c)
-
-add-result : tie.Need-add-result
-add-result c = omega (arith, within c)
-
-add-result-2 : tie.Need-add-result-2
-add-result-2 c = omega (arith, within c)
-
-returns : tie.Need-returns
-returns c = search needs
-
 pub column-spec : {M : Type 1} → statement M
-column-spec = tie.close (tie.spec mul-result add-result add-result-2 returns)
+column-spec = tie.close (tie.spec (λ c. omega (arith, within c)) (λ c. omega (arith, within c)) (λ c. omega (arith, within c)) (λ c. search needs))

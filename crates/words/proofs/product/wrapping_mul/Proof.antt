@@ -4,11 +4,8 @@ use Rattle.words.proofs.Words.{lower-word}
 use Rattle.words.proofs.product.wrapping_mul.Statement.{statement}
 use Rattle.words.proofs.product.wrapping_mul.Tie as tie
 
-product-requires : tie.Need-product-requires
-product-requires c κs = search needs
-
 returns : tie.Need-returns
 returns c = let p = c .product in lower-word (p .result .hi) (p .result .lo) _ (search needs) (p .ensures)
 
 pub wrapping-mul-spec : {M : Type 1} → statement M
-wrapping-mul-spec = tie.close (tie.spec product-requires returns)
+wrapping-mul-spec = tie.close (tie.spec (λ c κs. search needs) returns)

@@ -4,17 +4,14 @@ use Rattle.state.specs.RegsLaws.{set-past}
 use Rattle.state.proofs.regs.RegFile.set_reg.Statement.{statement}
 use Rattle.state.proofs.regs.RegFile.set_reg.Tie as tie
 
-mul-self : tie.Need-mul-self
-mul-self c = search needs
-
-element-write-self : tie.Need-element-write-self
-element-write-self c = search needs
-
-returns : tie.Need-returns
-returns c = search needs
-
 returns-2 : tie.Need-returns-2
 returns-2 c = search (set-past, needs)
 
 pub set-reg-spec : {M : Type 1} → statement M
-set-reg-spec = tie.close (tie.spec mul-self element-write-self returns returns-2)
+set-reg-spec =
+    tie.close
+    (tie.spec
+    (λ c. search needs)
+    (λ c. search needs)
+    (λ c. search needs)
+    returns-2)

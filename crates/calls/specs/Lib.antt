@@ -1,0 +1,2 @@
+pub mod CallFile
+pub mod CallFileLaws

@@ -1,0 +1,12 @@
+pub mod Writer
+pub mod WriterParts
+pub mod WriterLaidLaws
+pub mod WriterLaws
+pub mod WriterSizeLaws
+pub mod WriterAnswerLaws
+pub mod WriterWidthLaws
+pub mod WriterTheorems
+pub mod ReadBackTheorems
+pub mod WrittenTheorems
+pub mod ExactlyTheorems
+pub mod Answers

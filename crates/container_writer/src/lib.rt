@@ -1,0 +1,2 @@
+// Writing a container's canonical bytes.
+pub mod writer;

@@ -1,0 +1,2 @@
+-- What the proofs of the builders use.
+mod Last

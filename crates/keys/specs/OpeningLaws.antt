@@ -1,0 +1,31 @@
+-- Zeroed tables hold no rows. Assumes nothing.
+use mathlib.Core.Path.{_≡_, refl}
+use mathlib.Core.List.{List}
+use Prim.Native.Nat.{ℕ, _*_, _-_, _≤_}
+use native.Mathlib.Omega.{arith}
+use native.Mathlib.Nat.{zero-mul}
+use lib.ListN.{length}
+use Rattle.tables.specs.Rows.{rows}
+use Rattle.keys.specs.Lent.{Bufs, keysOf}
+use Rattle.keys.specs.Sound.{Held, Good}
+use Rattle.keys.specs.Opening.{noRows, noKeys, Zero, Wiped}
+
+held-none : (w : ℕ) (t : List ℕ) → 32 ≤ w → Zero t → Held w 0 t
+unfolding rows
+held-none w t h z =
+    let e : 0 * w ≡ 0 = zero-mul w in
+    let n : length t - 0 ≡ length t = omega arith in
+    record { table = record { wide = h; fits = omega (arith, e); rising = tt }; rest = rw (e, n) z }
+
+pub opening-good : (b : Bufs) → Wiped b → Good noRows b
+opening-good b z = record {
+  changes = held-none 40 (b .changes) (omega arith) (z .changes);
+  fetched = held-none 40 (b .fetched) (omega arith) (z .fetched);
+  may-read = held-none 32 (b .may-read) (omega arith) (z .may-read);
+  may-write = held-none 32 (b .may-write) (omega arith) (z .may-write);
+  paid = held-none 32 (b .paid) (omega arith) (z .paid);
+}
+
+pub opening-keys : (b : Bufs) → keysOf noRows b ≡ noKeys
+unfolding rows
+opening-keys b = refl

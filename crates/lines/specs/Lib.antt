@@ -1,0 +1,10 @@
+pub mod Names
+pub mod NameLaws
+pub mod VerdictLine
+pub mod VerdictLaws
+pub mod AnswerLines
+pub mod AnswerLaws
+pub mod EffectLines
+pub mod EffectLaws
+pub mod NewestLaws
+pub mod CaseTheorems

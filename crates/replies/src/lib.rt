@@ -1,0 +1,3 @@
+// Rows of recorded replies.
+pub mod reply;
+pub mod rows;

@@ -1,7 +1,0 @@
--- `for_log` has the length that it says. Assumes nothing.
-use Rattle.runs.specs.Zeros.{as-many}
-use Rattle.runs.proofs.lent.for_log.Statement.{statement}
-use Rattle.runs.proofs.lent.for_log.Tie as tie
-
-pub for-log-spec : {M : Type 1} → statement M
-for-log-spec = tie.close (tie.spec (λ c. as-many 1048576))

@@ -1,0 +1,44 @@
+// A number read from decimal digits.
+ghost use mathlib.Core.Path.{_≡_};
+ghost use Rattle.text.specs.Number.{withDigit, parsedOf};
+
+pub enum Parsed {
+    Number(u64),
+    Bad,
+}
+
+// A number and a digit behind it.
+fn with_digit(n: u64, x: u8) -> Parsed
+    ensures { λ r. ⌜ r ≡ withDigit n x ⌝ }
+{
+    if x < 48 {
+        return Parsed::Bad;
+    }
+    if x > 57 {
+        return Parsed::Bad;
+    }
+    let d = (x - 48) as u64;
+    if n > (18446744073709551615 - d) / 10 {
+        return Parsed::Bad;
+    }
+    Parsed::Number(n * 10 + d)
+}
+
+pub fn parse(s: &[u8]) -> Parsed
+    ensures { λ r. ⌜ r ≡ parsedOf (now (s .entry)) ⌝ }
+{
+    if s.len() == 0 {
+        return Parsed::Bad;
+    }
+    let mut n = 0;
+    let mut i = 0;
+    while i < s.len() {
+        let p = with_digit(n, s[i]);
+        match p {
+            Parsed::Bad => return Parsed::Bad,
+            Parsed::Number(m) => n = m,
+        }
+        i += 1;
+    }
+    Parsed::Number(n)
+}

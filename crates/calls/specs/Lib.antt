@@ -1,2 +1,4 @@
+-- definitions
 pub mod CallFile
+-- laws
 pub mod CallFileLaws

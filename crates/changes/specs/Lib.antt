@@ -1,9 +1,13 @@
-pub mod AnswerLaws
+-- definitions
 pub mod ChangeList
+pub mod Merge
+-- what the code claims
+pub mod Changed
+pub mod RowPut
+-- laws
+pub mod AnswerLaws
 pub mod LeftLaws
 pub mod WriteLaws
-pub mod Changed
-pub mod Put
-pub mod Merge
 pub mod MergeLaws
+-- theorems
 pub mod MergeTheorems

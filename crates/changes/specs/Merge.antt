@@ -7,7 +7,7 @@ use lib.Dec.{leb}
 use lib.ListN.{length}
 use Rattle.words.specs.Choice.{pick}
 use Rattle.tables.specs.Rows.{Row, insert}
-use Rattle.changes.specs.ChangeList.{outputBy}
+use Rattle.changes.specs.ChangeList.{listOutputBy}
 use Rattle.changes.specs.declared.ChangeList.{ChangeList}
 use Rattle.changes.specs.declared.ChangeList.the-variants as answer
 
@@ -29,4 +29,4 @@ mergeAnswer none ss out = answer.BadTable
 
 -- the rows in front of the output, which is untouched where there are none
 unfoldable pub mergeOutput : (changes store : Option (List Row)) → (out : List ℕ) → List ℕ
-mergeOutput cs ss out = outputBy (mergeAnswer cs ss out) (mergedIn cs ss) out
+mergeOutput cs ss out = listOutputBy (mergeAnswer cs ss out) (mergedIn cs ss) out

@@ -8,9 +8,10 @@ use native.Mathlib.Omega.{arith}
 use lib.ListN.{length, drop}
 use lib.Seq.{paste, take-all, drop-at}
 use borrow.Author.Tests.{le-leb, lt-leb}
+use Rattle.words.specs.Choice.{isSome}
 use Rattle.words.specs.Bytes.{Bytes}
 use Rattle.words.specs.ChoiceLaws.{bit-small}
-use Rattle.tables.specs.Rows.{Row, rowOf, rows, bytesOf, insert, lookup, isSome}
+use Rattle.tables.specs.Rows.{Row, rowIn, rows, bytesOf, insert, lookup}
 use Rattle.tables.specs.RowsTheorems.{length-insert}
 use Rattle.tables.specs.LayoutLaws.{rows-length, rows-front}
 use Rattle.tables.specs.StoreLaws.{drop-beyond}
@@ -18,10 +19,10 @@ use Rattle.tables.specs.Table.{Table, Inserted, storedOf}
 use Rattle.tables.specs.TableTheorems.{held-bytes, inserted-table}
 use Rattle.tables.specs.declared.store.Stored.{Stored}
 use Rattle.tables.specs.declared.store.Stored.the-variants.{Count, NoRoom}
-use Rattle.changes.specs.ChangeList.{outputBy}
+use Rattle.changes.specs.ChangeList.{listOutputBy}
 use Rattle.changes.specs.Merge.{merged, mergedIn, mergeAnswer, mergeOutput}
-use Rattle.changes.specs.Put.{Put}
-use Rattle.changes.specs.LeftLaws.{part, next-rows}
+use Rattle.changes.specs.RowPut.{RowPut}
+use Rattle.changes.specs.LeftLaws.{rowPart, next-rows}
 use Rattle.changes.specs.declared.ChangeList.{ChangeList}
 use Rattle.changes.specs.declared.ChangeList.the-variants as answer
 
@@ -41,16 +42,16 @@ merged-length (c ∷ cs) ss =
     (omega arith, omega arith)
 
 module _ (row t u : List ℕ) (m : ℕ) (tb : Table 40 m t) (w : length row ≡ 40) (s : Stored)
-    (i : Inserted (length row) m (rowOf (length row) row) t u s) where
+    (i : Inserted (length row) m (rowIn (length row) row) t u s) where
   abbrev x : Row
-  x = rowOf 40 row
+  x = rowIn 40 row
 
   inserted : (o : Stored) → s ≡ o → Inserted 40 m x t u o
   inserted o e =
-      let as-told = subst (λ (p : Stored). Inserted (length row) m (rowOf (length row) row) t u p) e i in
-      subst (λ (k : ℕ). Inserted k m (rowOf k row) t u o) w as-told
+      let as-told = subst (λ (p : Stored). Inserted (length row) m (rowIn (length row) row) t u p) e i in
+      subst (λ (k : ℕ). Inserted k m (rowIn k row) t u o) w as-told
 
-  pub put-counted : (r : ℕ) → s ≡ Count r → length u ≡ length t → Put x m t u r
+  pub put-counted : (r : ℕ) → s ≡ Count r → length u ≡ length t → RowPut x m t u r
   put-counted r e l =
       let k = inserted (Count r) e in
       let n : r ≡ length (insert x (rows 40 m t)) = sym (rows-length 40 r u) ∙ ap length (k .bytes .0) in
@@ -94,7 +95,7 @@ module _ (changes : List ℕ) (n : ℕ) (t₀ : List ℕ) (m : ℕ) where
       }
 
   pub putting-turn : (t u : List ℕ) (k r i : ℕ) → Putting changes n t₀ m t k i → i < n → n * 40 ≤ length changes → length u ≡ length t
-      → Put (rowOf 40 (part changes i)) k t u r → Putting changes n t₀ m u r (i + 1)
+      → RowPut (rowIn 40 (rowPart changes i)) k t u r → Putting changes n t₀ m u r (i + 1)
   unfolding merged
   putting-turn t u k r i p l h z x = record {
     turns = omega arith;
@@ -137,24 +138,24 @@ abbrev pub Merges : (cs ss : Option (List Row)) (out after : List ℕ) → Chang
 Merges cs ss out after r = (r ≡ mergeAnswer cs ss out) × (after ≡ mergeOutput cs ss out)
 
 pub merges-none : (ss : Option (List Row)) (out : List ℕ) → Merges none ss out out answer.BadTable
-unfolding mergeAnswer mergeOutput mergedIn outputBy
+unfolding mergeAnswer mergeOutput mergedIn listOutputBy
 merges-none ss out = (refl, refl)
 
 pub merges-bad : (cs : Option (List Row)) (out : List ℕ) → Merges cs none out out answer.BadTable
-unfolding mergeAnswer mergeOutput mergedIn outputBy
+unfolding mergeAnswer mergeOutput mergedIn listOutputBy
 merges-bad none out = (refl, refl)
 merges-bad (some cs) out = (refl, refl)
 
 module _ (cs ss : List Row) (out : List ℕ) (n ns : ℕ) (a : length cs ≡ n) (b : length ss ≡ ns) where
   pub merges-short : length out / 40 < ns + n → Merges (some cs) (some ss) out out answer.NoRoom
-  unfolding mergeAnswer mergeOutput mergedIn outputBy
+  unfolding mergeAnswer mergeOutput mergedIn listOutputBy
   merges-short h =
       let f = lt-leb ((length ss + length cs) * 40) (length out) (omega arith) in
       (rw f, rw f)
 
   pub merges-rows : ns + n ≤ length out / 40 → (t u : List ℕ) (k : ℕ) → length u ≡ length out → Bytes u → drop (ns * 40) t ≡ drop (ns * 40) out
       → rows 40 k u ≡ merged cs ss → drop (k * 40) u ≡ drop (k * 40) t → Merges (some cs) (some ss) out u (answer.Rows k)
-  unfolding mergeAnswer mergeOutput mergedIn outputBy
+  unfolding mergeAnswer mergeOutput mergedIn listOutputBy
   merges-rows h t u k z by d r e =
       let (lo, hi) = merged-length cs ss in
       let c : k ≡ length (merged cs ss) = sym (rows-length 40 k u) ∙ ap length r in
@@ -165,6 +166,6 @@ module _ (cs ss : List Row) (out : List ℕ) (n ns : ℕ) (a : length cs ≡ n) 
       (rw f (ap answer.Rows c), rw f (w ∙ ap (λ (j : ℕ). bytesOf 40 (merged cs ss) ++ drop (j * 40) out) c))
 
 -- a merge of equal tables is the same
-pub merges-as : (cs ds ss ts : Option (List Row)) (out after : List ℕ) (r : ChangeList) → cs ≡ ds → ss ≡ ts →
+pub merges-as : {cs ds ss ts : Option (List Row)} (out after : List ℕ) (r : ChangeList) → cs ≡ ds → ss ≡ ts →
     Merges ds ts out after r → Merges cs ss out after r
-merges-as cs ds ss ts out after r p q x = rw (p, q) x
+merges-as out after r p q x = rw (p, q) x

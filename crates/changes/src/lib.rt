@@ -6,9 +6,9 @@ ghost use mathlib.Core.Option.{some};
 ghost use Prim.Native.Nat.{_*_, _≤_};
 ghost use lib.ListN.{length};
 ghost use Rattle.words.specs.Bytes.{num};
-ghost use Rattle.tables.specs.Rows.{rowOf, rows};
+ghost use Rattle.tables.specs.Rows.{rowIn, rows};
 ghost use Rattle.tables.specs.Table.{Table};
-ghost use Rattle.changes.specs.ChangeList.{startOf, lent, listOf, answerOf, outputOf};
+ghost use Rattle.changes.specs.ChangeList.{startOf, lent, listOf, answerOf, listOutput};
 ghost use Rattle.changes.specs.Changed.{sameb, changedIn, written};
 use tables::check::Checked;
 use tables::rows::Got;
@@ -40,7 +40,7 @@ fn start(store: &[u8], ns: usize, loader: &[u8], nl: usize, key: &[u8]) -> u64
 // Whether a row's value is its key's starting value.
 fn unchanged(row: &[u8], store: &[u8], ns: usize, loader: &[u8], nl: usize) -> bool
     requires { ⌜ Table 40 ns (now store) × Table 40 nl (now loader) × (length (now row) ≡ 40) ⌝ }
-    ensures { λ r. ⌜ r ≡ sameb (rows 40 ns (now (store .entry))) (rows 40 nl (now (loader .entry))) (rowOf 40 (now (row .entry))) ⌝ }
+    ensures { λ r. ⌜ r ≡ sameb (rows 40 ns (now (store .entry))) (rows 40 nl (now (loader .entry))) (rowIn 40 (now (row .entry))) ⌝ }
 {
     let v = start(store, ns, loader, nl, &row[..32]);
     words::bytes::read(row, 32, 8) == v
@@ -117,7 +117,7 @@ fn list(
     ensures answer { λ r. ⌜ r ≡
         answerOf (some (changedIn (now (changes .entry)) n (now (store .entry)) ns (now (loader .entry)) nl)) (now (out .entry)) ⌝ }
     ensures output { λ _. ⌜ now (out .exit) ≡
-        outputOf (some (changedIn (now (changes .entry)) n (now (store .entry)) ns (now (loader .entry)) nl)) (now (out .entry)) ⌝ }
+        listOutput (some (changedIn (now (changes .entry)) n (now (store .entry)) ns (now (loader .entry)) nl)) (now (out .entry)) ⌝ }
 {
     let k = count_changed(changes, n, store, ns, loader, nl);
     if out.len() / 40 < k {
@@ -132,14 +132,14 @@ pub fn change_list(
     changes: &[u8],
     count: usize,
     store: &[u8],
-    present: bool,
+    has_loader: bool,
     loader: &[u8],
     out: &mut [u8],
 ) -> ChangeList
     ensures answer { λ r. ⌜ r ≡
-        answerOf (listOf (lent (now (changes .entry)) count (now (store .entry)) present (now (loader .entry)))) (now (out .entry)) ⌝ }
+        answerOf (listOf (lent (now (changes .entry)) count (now (store .entry)) «has_loader» (now (loader .entry)))) (now (out .entry)) ⌝ }
     ensures output { λ _. ⌜ now (out .exit) ≡
-        outputOf (listOf (lent (now (changes .entry)) count (now (store .entry)) present (now (loader .entry)))) (now (out .entry)) ⌝ }
+        listOutput (listOf (lent (now (changes .entry)) count (now (store .entry)) «has_loader» (now (loader .entry)))) (now (out .entry)) ⌝ }
 {
     if changes.len() / 40 < count {
         return ChangeList::BadTable;
@@ -151,7 +151,7 @@ pub fn change_list(
     match s {
         Checked::Bad => ChangeList::BadTable,
         Checked::Whole(ns) => {
-            let l = tables::check::check_if(present, loader, 40);
+            let l = tables::check::check_if(has_loader, loader, 40);
             match l {
                 Checked::Bad => ChangeList::BadTable,
                 Checked::Whole(nl) => list(changes, count, store, ns, loader, nl, out),

@@ -3,12 +3,12 @@ ghost use mathlib.Core.Path.{_≡_};
 ghost use mathlib.Core.Option.{some};
 ghost use Prim.Native.Nat.{_+_, _*_, _≤_};
 ghost use lib.ListN.{length, drop};
-ghost use Rattle.tables.specs.Rows.{rowOf, rows};
+ghost use Rattle.tables.specs.Rows.{rowIn, rows};
 ghost use Rattle.tables.specs.Table.{Table};
 ghost use Rattle.tables.specs.Checked.{checkedOf};
-ghost use Rattle.changes.specs.ChangeList.{storedOf, rowsOf};
+ghost use Rattle.changes.specs.ChangeList.{countedRows, rowsOf};
 ghost use Rattle.changes.specs.Merge.{merged, mergeAnswer, mergeOutput};
-ghost use Rattle.changes.specs.Put.{Put};
+ghost use Rattle.changes.specs.RowPut.{RowPut};
 use crate::ChangeList;
 use tables::check::Checked;
 use tables::store::Stored;
@@ -16,7 +16,7 @@ use tables::store::Stored;
 // Puts a row into the first m rows, which have room for it; how many there are then.
 fn put_row(t: &mut [u8], m: usize, row: &[u8]) -> usize
     requires { ⌜ Table 40 m (now t) × (length (now row) ≡ 40) × ((m + 1) * 40 ≤ length (now t)) ⌝ }
-    ensures { λ r. ⌜ Put (rowOf 40 (now (row .entry))) m (now (t .entry)) (now (t .exit)) r ⌝ }
+    ensures { λ r. ⌜ RowPut (rowIn 40 (now (row .entry))) m (now (t .entry)) (now (t .exit)) r ⌝ }
 {
     let s = tables::store::insert(t, m, row);
     match s {
@@ -60,9 +60,9 @@ fn merge_whole(changes: &[u8], n: usize, store: &[u8], ns: usize, out: &mut [u8]
 // The store's rows with the counted changes put in, rising.
 pub fn merge(changes: &[u8], count: usize, store: &[u8], out: &mut [u8]) -> ChangeList
     ensures answer { λ r. ⌜ r ≡
-        mergeAnswer (storedOf (now (changes .entry)) count) (rowsOf (checkedOf 40 (now (store .entry))) (now (store .entry))) (now (out .entry)) ⌝ }
+        mergeAnswer (countedRows (now (changes .entry)) count) (rowsOf (checkedOf 40 (now (store .entry))) (now (store .entry))) (now (out .entry)) ⌝ }
     ensures output { λ _. ⌜ now (out .exit) ≡
-        mergeOutput (storedOf (now (changes .entry)) count) (rowsOf (checkedOf 40 (now (store .entry))) (now (store .entry))) (now (out .entry)) ⌝ }
+        mergeOutput (countedRows (now (changes .entry)) count) (rowsOf (checkedOf 40 (now (store .entry))) (now (store .entry))) (now (out .entry)) ⌝ }
 {
     if changes.len() / 40 < count {
         return ChangeList::BadTable;

@@ -3,11 +3,7 @@ use mathlib.Core.List.{List, [], _∷_, _++_}
 use Prim.Native.Nat.{ℕ, _^_, _<_}
 use lib.ListN.{length}
 use Rattle.words.specs.Bytes.{beBytes, Bytes}
-use Rattle.container.specs.Container.{Entry, Container}
-
--- QVM1
-abbrev pub tag : ℕ
-tag = 0x51564D31
+use Rattle.container.specs.Container.{Entry, Container, tag}
 
 unfoldable pub wordBytes : List ℕ → List ℕ
 wordBytes [] = []
@@ -36,17 +32,17 @@ abbrev pub Words : List ℕ → Type 0
 Words [] = Unit {0}
 Words (x ∷ xs) = (x < 2 ^ 64) × Words xs
 
-pub record Counted (xs : List ℕ) : Type 0 where
+pub record CountedWords (xs : List ℕ) : Type 0 where
   pub count : length xs < 2 ^ 32
   pub words : Words xs
 
 pub record WritableEntry (e : Entry) : Type 0 where
   pub selector : e .selector < 2 ^ 32
   pub offset : e .offset < 2 ^ 32
-  pub reads : Counted (e .reads)
-  pub writes : Counted (e .writes)
-  pub keyed-reads : Counted (e .keyed-reads)
-  pub keyed-writes : Counted (e .keyed-writes)
+  pub reads : CountedWords (e .reads)
+  pub writes : CountedWords (e .writes)
+  pub keyed-reads : CountedWords (e .keyed-reads)
+  pub keyed-writes : CountedWords (e .keyed-writes)
 
 abbrev pub WritableEntries : List Entry → Type 0
 WritableEntries [] = Unit {0}
@@ -55,6 +51,6 @@ WritableEntries (e ∷ es) = WritableEntry e × WritableEntries es
 pub record Writable (c : Container) : Type 0 where
   pub code : length (c .code) < 2 ^ 32
   pub bytes : Bytes (c .code)
-  pub consts : Counted (c .consts)
+  pub consts : CountedWords (c .consts)
   pub count : length (c .entries) < 2 ^ 32
   pub entries : WritableEntries (c .entries)

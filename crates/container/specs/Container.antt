@@ -19,3 +19,7 @@ pub record Container : Type 0 where
   pub code : List ℕ
   pub consts : List ℕ
   pub entries : List Entry
+
+-- QVM1, its first four bytes
+abbrev pub tag : ℕ
+tag = 0x51564D31

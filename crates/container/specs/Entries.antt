@@ -2,7 +2,7 @@
 use mathlib.Core.List.{List, [], _∷_}
 use Prim.Native.Nat.{ℕ, _+_, _*_}
 use lib.Dec.{eqb}
-use lib.ListN.{length}
+use lib.ListN.{length, take, drop}
 use Rattle.words.specs.Choice.{pick}
 use Rattle.container.specs.Container.{Entry}
 use Rattle.container.specs.Reader.{Parsed, short, read}
@@ -12,13 +12,17 @@ use Rattle.container.specs.declared.entries.CountedRead.the-variants as 
 use Rattle.container.specs.declared.entries.EntryLayout.{EntryLayout}
 use Rattle.container.specs.declared.entries.EntryRead.{EntryRead}
 use Rattle.container.specs.declared.entries.EntryRead.the-variants as entry
-use Rattle.container.specs.declared.entries.End.{End}
-use Rattle.container.specs.declared.entries.End.the-variants as end
-use Rattle.container.specs.declared.offsets.Found.{Found}
-use Rattle.container.specs.declared.offsets.Found.the-variants as found
+use Rattle.container.specs.declared.entries.EntriesEnd.{EntriesEnd}
+use Rattle.container.specs.declared.entries.EntriesEnd.the-variants as end
+use Rattle.container.specs.declared.offsets.FirstMatch.{FirstMatch}
+use Rattle.container.specs.declared.offsets.FirstMatch.the-variants as found
 
 abbrev pub slots : (first count : ℕ) → Slots
 slots first count = record { at = first; count = count }
+
+-- the bytes of a list's words
+abbrev pub slotBytes : List ℕ → Slots → List ℕ
+slotBytes s l = take (l .count * 8) (drop (l .at) s)
 
 -- the list at a place: its words stand after four bytes of count
 unfoldable pub listAt : ℕ → Parsed (List ℕ) → CountedRead
@@ -58,11 +62,11 @@ unfoldable pub ends : ℕ → List Entry → ℕ
 ends at [] = at
 ends at (e ∷ es) = ends (placed at e .end) es
 
-unfoldable pub endOf : ℕ → Parsed (List Entry) → End
-endOf at short = end.Short
-endOf at (read es t) = end.At (ends at es)
+unfoldable pub entriesEnd : ℕ → Parsed (List Entry) → EntriesEnd
+entriesEnd at short = end.Short
+entriesEnd at (read es t) = end.At (ends at es)
 
 -- the first entry with a selector, of entries that stand from a place on
-unfoldable pub foundIn : (selector at : ℕ) → List Entry → Found
+unfoldable pub foundIn : (selector at : ℕ) → List Entry → FirstMatch
 foundIn selector at [] = found.Missing
 foundIn selector at (e ∷ es) = pick (eqb (e .selector) selector) (found.At (placed at e)) (foundIn selector (placed at e .end) es)

@@ -6,10 +6,10 @@ use native.Mathlib.Omega.{arith}
 use lib.ListN.{length, drop}
 use Rattle.container.specs.Container.{Entry}
 use Rattle.container.specs.Reader.{Parsed, short, read, andThen, entry, entries}
-use Rattle.container.specs.Entries.{placed, ends, endOf}
-use Rattle.container.specs.EntryTold.{both-read, entry-told, EntryFound}
+use Rattle.container.specs.Entries.{placed, ends, entriesEnd}
+use Rattle.container.specs.EntryToldLaws.{both-read, entry-told, EntryFound}
 use Rattle.container.specs.declared.entries.EntryLayout.{EntryLayout}
-use Rattle.container.specs.declared.entries.End.the-variants.{At, Short}
+use Rattle.container.specs.declared.entries.EntriesEnd.the-variants.{At, Short}
 
 -- one entry, then the others
 pub entries-more : (n : ℕ) (s : List ℕ) → 0 < n → entries n s ≡ andThen (entry s) (λ e t. andThen (entries (n - 1) t) (λ es u. read (e ∷ es) u))
@@ -21,20 +21,20 @@ unfolding entries
 no-more n s h = let e : n ≡ 0 = omega arith in ap (λ (k : ℕ). entries k s) e
 
 module _ (s : List ℕ) (n at : ℕ) where
-  pub end-turn : 0 < n → (l : EntryLayout) → EntryFound s at l → endOf at (entries n (drop at s)) ≡ endOf (l .end) (entries (n - 1) (drop (l .end) s))
-  unfolding endOf ends
+  pub end-turn : 0 < n → (l : EntryLayout) → EntryFound s at l → entriesEnd at (entries n (drop at s)) ≡ entriesEnd (l .end) (entries (n - 1) (drop (l .end) s))
+  unfolding entriesEnd ends
   end-turn h l f = rw (entries-more n (drop at s) h, f .is) (by (entries (n - 1) (drop (l .end) s)))
     where
-      by : (p : Parsed (List Entry)) → endOf at (andThen p (λ es u. read (f .found ∷ es) u)) ≡ endOf (l .end) p
+      by : (p : Parsed (List Entry)) → entriesEnd at (andThen p (λ es u. read (f .found ∷ es) u)) ≡ entriesEnd (l .end) p
       by short = refl
       by (read es u) = rw (f .layout)
 
-  pub end-short : 0 < n → entry (drop at s) ≡ short → Short ≡ endOf at (entries n (drop at s))
-  unfolding endOf
+  pub end-short : 0 < n → entry (drop at s) ≡ short → Short ≡ entriesEnd at (entries n (drop at s))
+  unfolding entriesEnd
   end-short h e = rw (entries-more n (drop at s) h, e)
 
-  pub end-reached : n ≤ 0 → At at ≡ endOf at (entries n (drop at s))
-  unfolding endOf ends
+  pub end-reached : n ≤ 0 → At at ≡ entriesEnd at (entries n (drop at s))
+  unfolding entriesEnd ends
   end-reached h = rw (no-more n (drop at s) h)
 
 -- entries that were read: the first, and those after it
@@ -86,18 +86,18 @@ pub record EntriesFound (s : List ℕ) (n at end : ℕ) : Type 0 where
   pub within : end ≤ length s
   pub count : length found ≡ n
 
-pub entries-found : (s : List ℕ) (n at end : ℕ) → at ≤ length s → At end ≡ endOf at (entries n (drop at s)) → EntriesFound s n at end
-unfolding endOf
+pub entries-found : (s : List ℕ) (n at end : ℕ) → at ≤ length s → At end ≡ entriesEnd at (entries n (drop at s)) → EntriesFound s n at end
+unfolding entriesEnd
 entries-found s n at end l h = by (entries n (drop at s)) refl h
   where
-    by : (p : Parsed (List Entry)) → entries n (drop at s) ≡ p → At end ≡ endOf at p → EntriesFound s n at end
+    by : (p : Parsed (List Entry)) → entries n (drop at s) ≡ p → At end ≡ entriesEnd at p → EntriesFound s n at end
     by short e k = absurd (let z : _≡_ {A = ℕ} 0 1 = cc in omega arith)
     by (read es t) e k =
         let r = entries-told s n at es t l e in
         let d : end ≡ ends at es = cc in
         record { found = es; is = rw (d, ← r .rest) e; within = rw d (r .within); count = r .count }
 
-pub entries-short : (at : ℕ) (p : Parsed (List Entry)) → Short ≡ endOf at p → p ≡ short
-unfolding endOf
+pub entries-short : (at : ℕ) (p : Parsed (List Entry)) → Short ≡ entriesEnd at p → p ≡ short
+unfolding entriesEnd
 entries-short at short h = refl
 entries-short at (read es t) h = absurd (let z : _≡_ {A = ℕ} 0 1 = cc in omega arith)

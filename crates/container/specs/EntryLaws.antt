@@ -31,7 +31,7 @@ module _ (s : List ℕ) (at n : ℕ) (e : n ≡ num (take 4 (drop at s))) (h : a
   list-there l = rw (counted-there s at n e h l, length-words n (take (n * 8) (drop (at + 4) s)))
 
 -- what a list that was read tells
-pub record Listed (s : List ℕ) (at : ℕ) (l : Slots) (end : ℕ) : Type 0 where
+pub record ListRead (s : List ℕ) (at : ℕ) (l : Slots) (end : ℕ) : Type 0 where
   pub words : List ℕ
   pub is : counted (drop at s) ≡ read words (drop end s)
   pub slots : l ≡ slots (at + 4) (length words)
@@ -44,7 +44,7 @@ short-told at short h = refl
 short-told at (read ws t) h = absurd (let z : _≡_ {A = ℕ} 0 1 = cc in omega arith)
 
 module _ (s : List ℕ) (at : ℕ) (l : Slots) (end : ℕ) (h : Done l end ≡ listAt at (counted (drop at s))) where
-  with-count : (t : Bool) → leb (num (take 4 (drop at s))) ((length s - (at + 4)) / 8) ≡ t → at + 4 ≤ length s → Listed s at l end
+  with-count : (t : Bool) → leb (num (take 4 (drop at s))) ((length s - (at + 4)) / 8) ≡ t → at + 4 ≤ length s → ListRead s at l end
   with-count true q k =
       let n = num (take 4 (drop at s)) in
       let le : n ≤ (length s - (at + 4)) / 8 = leb-true _ _ q in
@@ -64,10 +64,10 @@ module _ (s : List ℕ) (at : ℕ) (l : Slots) (end : ℕ) (h : Done l end ≡ l
       let d = list-short s at (num (take 4 (drop at s))) refl k (leb-false _ _ q) in
       absurd (let z : _≡_ {A = ℕ} 0 1 = cc in omega arith)
 
-  pub list-told : Listed s at l end
+  pub list-told : ListRead s at l end
   list-told = by (leb 4 (length s - at)) refl
     where
-      by : (t : Bool) → leb 4 (length s - at) ≡ t → Listed s at l end
+      by : (t : Bool) → leb 4 (length s - at) ≡ t → ListRead s at l end
       by true q = with-count (leb (num (take 4 (drop at s))) ((length s - (at + 4)) / 8)) refl (omega (arith, leb-true 4 (length s - at) q))
       by false q = let d = list-none s at (leb-false 4 (length s - at) q) in absurd (let z : _≡_ {A = ℕ} 0 1 = cc in omega arith)
 
@@ -83,7 +83,8 @@ module _ (s : List ℕ) (at : ℕ) where
   entry-none h = by (leb 4 (length s - at)) refl
     where
       by : (t : Bool) → leb 4 (length s - at) ≡ t → entry (drop at s) ≡ short
-      by true q = rw (number-there s at 4 (omega (arith, leb-true 4 (length s - at) q)), number-short s (at + 4) 4 (omega (arith, leb-true 4 (length s - at) q)))
+      by true q =
+          rw (number-there s at 4 (omega (arith, leb-true 4 (length s - at) q)), number-short s (at + 4) 4 (omega (arith, leb-true 4 (length s - at) q)))
       by false q = rw (number-short s at 4 (leb-false 4 (length s - at) q))
 
 module _ (s : List ℕ) (at : ℕ) (h : at + 8 ≤ length s) where
@@ -96,19 +97,19 @@ module _ (s : List ℕ) (at : ℕ) (h : at + 8 ≤ length s) where
   pub short-reads : counted (drop (at + 8) s) ≡ short → entry (drop at s) ≡ short
   short-reads e = rw (head, e)
 
-  module _ (r : Slots) (w : ℕ) (R : Listed s (at + 8) r w) where
+  module _ (r : Slots) (w : ℕ) (R : ListRead s (at + 8) r w) where
     pub short-writes : counted (drop w s) ≡ short → entry (drop at s) ≡ short
     short-writes e = rw (head, R .is, e)
 
-    module _ (ws : Slots) (kr : ℕ) (W : Listed s w ws kr) where
+    module _ (ws : Slots) (kr : ℕ) (W : ListRead s w ws kr) where
       pub short-keyed-reads : counted (drop kr s) ≡ short → entry (drop at s) ≡ short
       short-keyed-reads e = rw (head, R .is, W .is, e)
 
-      module _ (krs : Slots) (kw : ℕ) (KR : Listed s kr krs kw) where
+      module _ (krs : Slots) (kw : ℕ) (KR : ListRead s kr krs kw) where
         pub short-keyed-writes : counted (drop kw s) ≡ short → entry (drop at s) ≡ short
         short-keyed-writes e = rw (head, R .is, W .is, KR .is, e)
 
-        module _ (kws : Slots) (end : ℕ) (KW : Listed s kw kws end) where
+        module _ (kws : Slots) (end : ℕ) (KW : ListRead s kw kws end) where
           -- the entry whose lists were found
           abbrev pub found : Entry
           found = record {

@@ -1,15 +1,19 @@
+-- definitions
 pub mod Container
 pub mod Canonical
 pub mod Reader
+pub mod Offsets
+pub mod Answers
+-- what the code claims
 pub mod Entries
 pub mod LaidOut
+-- laws
 pub mod ParseLaws
 pub mod EntryLaws
-pub mod EntryTold
+pub mod EntryToldLaws
 pub mod EntriesLaws
 pub mod ReaderLaws
-pub mod ReadTold
-pub mod Offsets
+pub mod ReadToldLaws
 pub mod OffsetLaws
-pub mod Answers
-pub mod Cases
+-- theorems
+pub mod CaseTheorems

@@ -11,25 +11,25 @@ use Rattle.words.specs.Choice.{pick}
 use Rattle.container.specs.Container.{Entry}
 use Rattle.container.specs.Reader.{short, read, entry, entries, readOf, layoutOf}
 use Rattle.container.specs.Entries.{placed, foundIn}
-use Rattle.container.specs.EntryTold.{EntryFound}
+use Rattle.container.specs.EntryToldLaws.{EntryFound}
 use Rattle.container.specs.EntriesLaws.{entries-more, no-more, entries-cons}
 use Rattle.container.specs.Offsets.{offsetIn, offsetOf}
-use Rattle.container.specs.ReadTold.{ReadTold}
+use Rattle.container.specs.ReadToldLaws.{ReadTold}
 use Rattle.container.specs.declared.reader.Layout.{Layout}
 use Rattle.container.specs.declared.entries.EntryLayout.{EntryLayout}
-use Rattle.container.specs.declared.offsets.Found.{Found}
-use Rattle.container.specs.declared.offsets.Found.the-variants.{At, Missing}
+use Rattle.container.specs.declared.offsets.FirstMatch.{FirstMatch}
+use Rattle.container.specs.declared.offsets.FirstMatch.the-variants.{At, Missing}
 use Rattle.container.specs.declared.offsets.Offset.{Offset}
 use Rattle.container.specs.declared.offsets.Offset.the-variants as offset
 
 -- some entries are left, and in them the search is decided
-pub record Left (s : List ℕ) (selector first : ℕ) (es : List Entry) (t : List ℕ) (at more : ℕ) : Type 0 where
+pub record EntriesLeft (s : List ℕ) (selector first : ℕ) (es : List Entry) (t : List ℕ) (at more : ℕ) : Type 0 where
   pub ahead : List Entry
   pub is : entries more (drop at s) ≡ read ahead t
   pub decides : foundIn selector first es ≡ foundIn selector at ahead
 
 pub record Searching (s : List ℕ) (selector first n at more : ℕ) : Type 0 where
-  pub left : (es : List Entry) (t : List ℕ) → entries n (drop first s) ≡ read es t → Left s selector first es t at more
+  pub left : (es : List Entry) (t : List ℕ) → entries n (drop first s) ≡ read es t → EntriesLeft s selector first es t at more
 
 module _ (s : List ℕ) (selector first n at more : ℕ) (i : Searching s selector first n at more) where
   module _ (es : List Entry) (t : List ℕ) (k : entries n (drop first s) ≡ read es t) where
@@ -61,8 +61,8 @@ module _ (s : List ℕ) (selector first n at more : ℕ) (i : Searching s select
   unfolding foundIn placed
   search-on h l f q = record { left = λ es t k. by es t k (i .left es t k) }
     where
-      by : (es : List Entry) (t : List ℕ) → entries n (drop first s) ≡ read es t → Left s selector first es t at more →
-          Left s selector first es t (l .end) (more - 1)
+      by : (es : List Entry) (t : List ℕ) → entries n (drop first s) ≡ read es t → EntriesLeft s selector first es t at more →
+          EntriesLeft s selector first es t (l .end) (more - 1)
       by es t k x =
           let y = entries-cons s more at l f (x .ahead) t h (x .is) in
           let b : l .selector ≡ f .found .selector = ap (λ (m : EntryLayout). m .selector) (f .layout) in
@@ -74,7 +74,7 @@ pub search-begins : (s : List ℕ) (selector first n : ℕ) → Searching s sele
 search-begins s selector first n = record { left = λ es t k. record { ahead = es; is = k; decides = refl } }
 
 -- the offset is the found entry's
-abbrev pub offsetBy : Found → Offset
+abbrev pub offsetBy : FirstMatch → Offset
 offsetBy (At l) = offset.At (l .offset)
 offsetBy Missing = offset.UnknownSelector
 
@@ -88,7 +88,7 @@ offset-found selector at (e ∷ es) = by (eqb (e .selector) selector) (offset-fo
     by true h = refl
     by false h = h
 
-pub offset-told : (s : List ℕ) (selector : ℕ) (l : Layout) (f : Found) → ReadTold s l →
+pub offset-told : (s : List ℕ) (selector : ℕ) (l : Layout) (f : FirstMatch) → ReadTold s l →
     ((es : List Entry) (t : List ℕ) → entries (l .entries) (drop (l .«entries_at») s) ≡ read es t → f ≡ foundIn selector (l .«entries_at») es) →
     offsetBy f ≡ offsetOf selector (readOf s)
 unfolding offsetOf layoutOf

@@ -5,8 +5,7 @@ use lib.Dec.{leb, eqb}
 use lib.ListN.{length, take, drop}
 use Rattle.words.specs.Choice.{pick}
 use Rattle.words.specs.Bytes.{num, wordsOf}
-use Rattle.container.specs.Container.{Entry, Container}
-use Rattle.container.specs.Canonical.{tag}
+use Rattle.container.specs.Container.{Entry, Container, tag}
 use Rattle.container.specs.declared.reader.Layout.{Layout}
 use Rattle.container.specs.declared.reader.ReadError.{ReadError}
 use Rattle.container.specs.declared.reader.ReadError.the-variants.{BadTag, Short, Trailing}

@@ -7,10 +7,10 @@ use lib.ListN.{length, take, drop, length-drop, drop-of-length-le}
 use lib.Seq.{length-take-le, drop-cons}
 use borrow.Author.Tests.{le-leb, lt-leb, eq-eqb, ne-eqb}
 use Rattle.words.specs.Bytes.{num}
-use Rattle.container.specs.Canonical.{tag}
+use Rattle.container.specs.Container.{tag}
 use Rattle.container.specs.Reader.{short, read, counted, entries, container, whole, readOf, layoutOf, readingOf}
 use Rattle.container.specs.ParseLaws.{number-there, number-short, part-there, part-short}
-use Rattle.container.specs.EntryLaws.{Listed}
+use Rattle.container.specs.EntryLaws.{ListRead}
 use Rattle.container.specs.EntriesLaws.{EntriesFound}
 use Rattle.container.specs.declared.entries.Slots.{Slots}
 use Rattle.container.specs.declared.reader.ReadError.the-variants.{BadTag, Short, Trailing}
@@ -49,7 +49,7 @@ module _ (s : List ℕ) (n : ℕ) (e : n ≡ num (take 4 (drop 4 s))) (h : 8 ≤
     unfolding container
     no-consts k = rw (number-there s 4 4 h, ← e, part-there s 8 n (omega arith), k)
 
-    module _ (k : Slots) (next : ℕ) (K : Listed s (8 + n) k next) where
+    module _ (k : Slots) (next : ℕ) (K : ListRead s (8 + n) k next) where
       pub no-count : length s - next < 4 → container (drop 4 s) ≡ short
       unfolding container
       no-count r = rw (number-there s 4 4 h, ← e, part-there s 8 n (omega arith), K .is, number-short s next 4 r)

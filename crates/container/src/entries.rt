@@ -1,15 +1,23 @@
 // Counted lists and entries, where they stand in bytes.
 ghost use mathlib.Core.Path.{_≡_};
-ghost use Prim.Native.Nat.{_-_};
+ghost use Prim.Native.Nat.{_+_, _*_, _-_, _≤_};
 ghost use lib.Dec.{leb};
 ghost use lib.ListN.{length, drop};
 ghost use Rattle.container.specs.Reader.{counted, entry, entries};
-ghost use Rattle.container.specs.Entries.{listAt, entryAt, slotsOf, endOf};
+ghost use Rattle.container.specs.Entries.{slotBytes, listAt, entryAt, slotsOf, entriesEnd};
 
 // Where a list's first word stands, and how many words it has.
 pub struct Slots {
     pub at: usize,
     pub count: usize,
+}
+
+// The bytes of a list's words.
+pub fn words_of(s: &[u8], list: Slots) -> &[u8]
+    requires { ⌜ list .at + list .count * 8 ≤ length (now s) ⌝ }
+    ensures { λ r. ⌜ now r ≡ slotBytes (now (s .entry)) list ⌝ }
+{
+    words::bytes::part(s, list.at, list.count * 8)
 }
 
 // A counted list, and the place after it.
@@ -35,7 +43,7 @@ pub enum EntryRead {
 }
 
 // The place after entries.
-pub enum End {
+pub enum EntriesEnd {
     At(usize),
     Short,
 }
@@ -124,17 +132,17 @@ pub fn slots_within_limit(e: EntryLayout) -> bool
 }
 
 // The place after n entries that stand from a place on.
-pub fn entries_end(s: &[u8], first: usize, n: usize) -> End
-    ensures { λ r. ⌜ r ≡ endOf first (entries n (drop first (now (s .entry)))) ⌝ }
+pub fn entries_end(s: &[u8], first: usize, n: usize) -> EntriesEnd
+    ensures { λ r. ⌜ r ≡ entriesEnd first (entries n (drop first (now (s .entry)))) ⌝ }
 {
     let mut at = first;
     let mut more = n;
     while 0 < more {
         let EntryRead::Done(e) = entry_at(s, at) else {
-            return End::Short;
+            return EntriesEnd::Short;
         };
         at = e.end;
         more -= 1;
     }
-    End::At(at)
+    EntriesEnd::At(at)
 }

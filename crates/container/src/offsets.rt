@@ -13,7 +13,7 @@ use super::reader::ReadError;
 use super::reader::Reading;
 
 // The entry with a selector.
-pub enum Found {
+pub enum FirstMatch {
     At(EntryLayout),
     Missing,
 }
@@ -25,22 +25,22 @@ pub enum Offset {
 }
 
 // The first entry with a selector, among n that were read from a place on.
-pub fn find(s: &[u8], first: usize, n: usize, selector: u64) -> Found
+pub fn find(s: &[u8], first: usize, n: usize, selector: u64) -> FirstMatch
     ensures { λ r. ⌜ ((es : List Entry) (t : List ℕ) → entries n (drop first (now (s .entry))) ≡ read es t → r ≡ foundIn selector first es) ⌝ }
 {
     let mut at = first;
     let mut more = n;
     while 0 < more {
         let EntryRead::Done(e) = super::entries::entry_at(s, at) else {
-            return Found::Missing;
+            return FirstMatch::Missing;
         };
         if e.selector == selector {
-            return Found::At(e);
+            return FirstMatch::At(e);
         }
         at = e.end;
         more -= 1;
     }
-    Found::Missing
+    FirstMatch::Missing
 }
 
 // The offset of the first entry with a selector.
@@ -53,8 +53,8 @@ pub fn entry_offset(s: &[u8], selector: u64) -> Offset
         Reading::Done(l) => {
             let f = find(s, l.entries_at, l.entries, selector);
             match f {
-                Found::At(e) => Offset::At(e.offset),
-                Found::Missing => Offset::UnknownSelector,
+                FirstMatch::At(e) => Offset::At(e.offset),
+                FirstMatch::Missing => Offset::UnknownSelector,
             }
         }
     }

@@ -4,7 +4,7 @@ ghost use lib.ListN.{drop};
 ghost use Rattle.container.specs.Reader.{container, whole, readOf, readingOf};
 ghost use Rattle.container.specs.Answers.{readError};
 use super::entries::CountedRead;
-use super::entries::End;
+use super::entries::EntriesEnd;
 use words::refusal::Refusal;
 
 // QVM1
@@ -62,7 +62,7 @@ fn body(s: &[u8]) -> Reading
     }
     let entries = words::bytes::read(s, next, 4) as usize;
     let entries_at = next + 4;
-    let End::At(end) = super::entries::entries_end(s, entries_at, entries) else {
+    let EntriesEnd::At(end) = super::entries::entries_end(s, entries_at, entries) else {
         return Reading::Refused(ReadError::Short);
     };
     if end < s.len() {

@@ -14,16 +14,16 @@ use Rattle.words.specs.Lists.{member}
 use Rattle.container.specs.Container.{Entry, slotCount}
 use Rattle.container.specs.Reader.{short, read, entry, entries}
 use Rattle.container.specs.Entries.{placed, slotsOf}
-use Rattle.container.specs.EntryTold.{EntryFound}
+use Rattle.container.specs.EntryToldLaws.{EntryFound}
 use Rattle.container.specs.EntriesLaws.{entries-more, no-more, entries-cons}
 use Rattle.starts.specs.Marks.{marked, Holds}
-use Rattle.container_verify.specs.Verify.{entryRefusal, firstOf, entriesRefusal}
-use Rattle.container_verify.specs.Checks.{checkOf, Answers}
+use Rattle.container_verify.specs.Verify.{entryRefusal, firstRefusal, entriesRefusal}
+use Rattle.container_verify.specs.Checks.{asCheck, Answers}
 use Rattle.container.specs.declared.entries.EntryLayout.{EntryLayout}
 use Rattle.container_verify.specs.declared.verify.VerifyError.{VerifyError}
 use Rattle.container_verify.specs.declared.verify.VerifyError.the-variants.{EntryOffsetMisaligned, DuplicateSelector, AccessListTooLarge}
-use Rattle.container_verify.specs.declared.verify.Check.{Check}
-use Rattle.container_verify.specs.declared.verify.Check.the-variants.{Passed, Failed}
+use Rattle.container_verify.specs.declared.verify.CheckAnswer.{CheckAnswer}
+use Rattle.container_verify.specs.declared.verify.CheckAnswer.the-variants.{Passed, Failed}
 
 -- ---- a selector among those seen: what is left decides
 
@@ -43,14 +43,14 @@ module _ (seen : List ℕ) (i x : ℕ) where
 -- ---- one entry
 
 -- what three tests decide
-abbrev pub checkBy : (known start few : Bool) → (selector : ℕ) → Check
+abbrev pub checkBy : (known start few : Bool) → (selector : ℕ) → CheckAnswer
 checkBy known start few selector =
     pick known (Failed (DuplicateSelector selector))
     (pick start (pick few Passed (Failed (AccessListTooLarge selector))) (Failed (EntryOffsetMisaligned selector)))
 
 check-by : (a b c : Bool) (k : ℕ) →
-    checkOf (pick a (some (DuplicateSelector k)) (pick b (pick c none (some (AccessListTooLarge k))) (some (EntryOffsetMisaligned k)))) ≡ checkBy a b c k
-unfolding checkOf
+    asCheck (pick a (some (DuplicateSelector k)) (pick b (pick c none (some (AccessListTooLarge k))) (some (EntryOffsetMisaligned k)))) ≡ checkBy a b c k
+unfolding asCheck
 check-by true b c k = refl
 check-by false true true k = refl
 check-by false true false k = refl
@@ -65,13 +65,13 @@ by-tests map seen l a b c p r u =
 
 -- ---- entries in order
 
-passed : (o : Option VerifyError) → Passed ≡ checkOf o → o ≡ none
-unfolding checkOf
+passed : (o : Option VerifyError) → Passed ≡ asCheck o → o ≡ none
+unfolding asCheck
 passed none h = refl
 passed (some e) h = absurd (let z : _≡_ {A = ℕ} 0 1 = cc in omega arith)
 
-failed : (o : Option VerifyError) (e : VerifyError) → Failed e ≡ checkOf o → o ≡ some e
-unfolding checkOf
+failed : (o : Option VerifyError) (e : VerifyError) → Failed e ≡ asCheck o → o ≡ some e
+unfolding asCheck
 failed none e h = absurd (let z : _≡_ {A = ℕ} 0 1 = cc in omega arith)
 failed (some x) e h = let k : x ≡ e = cc in rw k
 
@@ -89,8 +89,8 @@ check-begins s map first n seen e = rw e (record { left = λ es t starts k m. re
 
 module _ (s map : List ℕ) (first n more at : ℕ) (seen : List ℕ) (c : Checking s map first n more at seen) where
   module _ (es : List Entry) (t starts : List ℕ) (k : entries n (drop first s) ≡ read es t) (m : Holds map starts) where
-    pub all-checked : more ≤ 0 → Passed ≡ checkOf (entriesRefusal [] starts es)
-    unfolding checkOf entriesRefusal
+    pub all-checked : more ≤ 0 → Passed ≡ asCheck (entriesRefusal [] starts es)
+    unfolding asCheck entriesRefusal
     all-checked h =
         let x = c .left es t starts k m in
         let e = x .after in
@@ -105,20 +105,20 @@ module _ (s map : List ℕ) (first n more at : ℕ) (seen : List ℕ) (c : Check
         let z : _≡_ {A = ℕ} 0 1 = cc in
         omega arith
 
-  module _ (h : 0 < more) (l : EntryLayout) (f : EntryFound s at l) (r : Check) (a : Answers map seen l r) where
-    answer : (starts : List ℕ) → Holds map starts → r ≡ checkOf (entryRefusal seen starts (f .found))
+  module _ (h : 0 < more) (l : EntryLayout) (f : EntryFound s at l) (r : CheckAnswer) (a : Answers map seen l r) where
+    answer : (starts : List ℕ) → Holds map starts → r ≡ asCheck (entryRefusal seen starts (f .found))
     answer starts m = a starts at (f .found) m (f .layout)
 
     pub check-failed : (e : VerifyError) → r ≡ Failed e → (es : List Entry) (t starts : List ℕ) → entries n (drop first s) ≡ read es t → Holds map starts →
-        Failed e ≡ checkOf (entriesRefusal [] starts es)
-    unfolding checkOf entriesRefusal firstOf
+        Failed e ≡ asCheck (entriesRefusal [] starts es)
+    unfolding asCheck entriesRefusal firstRefusal
     check-failed e q es t starts k m =
         let x = c .left es t starts k m in
         let y = entries-cons s more at l f (x .ahead) t h (x .after) in
         rw (x .decides, y .is, failed (entryRefusal seen starts (f .found)) e (sym q ∙ answer starts m))
 
     pub check-on : r ≡ Passed → (known : List ℕ) → known ≡ l .selector ∷ seen → Checking s map first n (more - 1) (l .end) known
-    unfolding entriesRefusal firstOf placed
+    unfolding entriesRefusal firstRefusal placed
     check-on q known is = record {
       left = λ es t starts k m.
           let x = c .left es t starts k m in

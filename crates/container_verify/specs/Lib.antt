@@ -1,8 +1,12 @@
+-- definitions
 pub mod Targets
-pub mod TargetLaws
 pub mod Verify
+pub mod Answers
+-- what the code claims
 pub mod Checks
+-- laws
+pub mod TargetLaws
 pub mod CheckLaws
 pub mod VerifyLaws
-pub mod Answers
+-- theorems
 pub mod CaseTheorems

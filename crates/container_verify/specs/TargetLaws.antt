@@ -14,7 +14,7 @@ use Rattle.isa.specs.declared.instr.Instr.{Instr}
 use Rattle.isa.specs.declared.codec.DecodeError.{DecodeError}
 use Rattle.isa.specs.declared.codec.Decoded.the-variants.{Done, Refused}
 use Rattle.isa.specs.Refers.{refersTo}
-use Rattle.container_verify.specs.Targets.{orElse, targetBy, badTarget, targetOf, standsOf}
+use Rattle.container_verify.specs.Targets.{badOr, targetBy, badTarget, targetStands, standsOf}
 use Rattle.starts.specs.Marks.{marked, Holds}
 use Rattle.starts.specs.SweepLaws.{Sweep, at-end, on}
 use Rattle.isa.specs.declared.flow.Refers.{Refers}
@@ -34,8 +34,8 @@ aims code starts = record {
   next = λ p i n k l h. rw h;
 }
 
-or-else : (r : Refers) (map starts : List ℕ) → Holds map starts → (next : Option ℕ) → Yes ≡ targetOf r (marked map) → orElse r starts next ≡ next
-unfolding orElse targetOf
+or-else : (r : Refers) (map starts : List ℕ) → Holds map starts → (next : Option ℕ) → Yes ≡ targetStands r (marked map) → badOr r starts next ≡ next
+unfolding badOr targetStands
 or-else (Target t) map starts h next e = by (member t starts) (e ∙ rw (h .at t))
   where
     by : (b : Bool) → Yes ≡ pick b Yes (No t) → pick b next (some t) ≡ next
@@ -44,8 +44,8 @@ or-else (Target t) map starts h next e = by (member t starts) (e ∙ rw (h .at t
 or-else (Const k) map starts h next e = refl
 or-else Nothing map starts h next e = refl
 
-or-bad : (r : Refers) (map starts : List ℕ) → Holds map starts → (next : Option ℕ) (t : ℕ) → No t ≡ targetOf r (marked map) → orElse r starts next ≡ some t
-unfolding orElse targetOf
+or-bad : (r : Refers) (map starts : List ℕ) → Holds map starts → (next : Option ℕ) (t : ℕ) → No t ≡ targetStands r (marked map) → badOr r starts next ≡ some t
+unfolding badOr targetStands
 or-bad (Target u) map starts h next t e = by (member u starts) (e ∙ rw (h .at u))
   where
     by : (b : Bool) → No t ≡ pick b Yes (No u) → pick b next (some u) ≡ some t
@@ -77,11 +77,11 @@ module _ (code map : List ℕ) (place : ℕ) (i : Aiming code map place) where
     aim-refused e d starts h = rw (by-decode starts h, d)
 
     module _ (x : Instr) (n : ℕ) (d : decodeAt code place ≡ Done x n) where
-      pub aim-bad : (t : ℕ) → No t ≡ targetOf (refersTo x) (marked map) → (starts : List ℕ) → Holds map starts →
+      pub aim-bad : (t : ℕ) → No t ≡ targetStands (refersTo x) (marked map) → (starts : List ℕ) → Holds map starts →
           No t ≡ standsOf (badTarget (length code) code starts 0)
       unfolding standsOf targetBy
       aim-bad t b starts h = rw (by-decode starts h, d, or-bad (refersTo x) map starts h (ahead code starts (place + n)) t b)
 
-      pub aim-on : Yes ≡ targetOf (refersTo x) (marked map) → Aiming code map (place + n)
+      pub aim-on : Yes ≡ targetStands (refersTo x) (marked map) → Aiming code map (place + n)
       unfolding targetBy
       aim-on b = record { left = λ starts h. by-decode starts h ∙ rw d (or-else (refersTo x) map starts h (ahead code starts (place + n)) b) }

@@ -17,14 +17,14 @@ use Rattle.starts.specs.declared.scan_answers.Stands.{Stands}
 use Rattle.starts.specs.declared.scan_answers.Stands.the-variants.{Yes, No}
 
 -- the first target, in code order, that is no start
-unfoldable pub orElse : Refers → List ℕ → Option ℕ → Option ℕ
-orElse (Target t) starts next = pick (member t starts) next (some t)
-orElse (Const k) starts next = next
-orElse Nothing starts next = next
+unfoldable pub badOr : Refers → List ℕ → Option ℕ → Option ℕ
+badOr (Target t) starts next = pick (member t starts) next (some t)
+badOr (Const k) starts next = next
+badOr Nothing starts next = next
 
 unfoldable pub targetBy : Decoded → List ℕ → (ℕ → Option ℕ) → Option ℕ
 targetBy (Refused e) starts next = none
-targetBy (Done i n) starts next = orElse (refersTo i) starts (next n)
+targetBy (Done i n) starts next = badOr (refersTo i) starts (next n)
 
 unfoldable pub badTarget : (turns : ℕ) (code starts : List ℕ) (place : ℕ) → Option ℕ
 badTarget zero code starts place = none
@@ -34,10 +34,10 @@ badTarget (suc t) code starts place =
 -- ---- as the code answers
 
 -- a target must be a start
-unfoldable pub targetOf : Refers → (start : ℕ → Bool) → Stands
-targetOf (Target t) start = pick (start t) Yes (No t)
-targetOf (Const k) start = Yes
-targetOf Nothing start = Yes
+unfoldable pub targetStands : Refers → (start : ℕ → Bool) → Stands
+targetStands (Target t) start = pick (start t) Yes (No t)
+targetStands (Const k) start = Yes
+targetStands Nothing start = Yes
 
 -- the first target that is none
 unfoldable pub standsOf : Option ℕ → Stands

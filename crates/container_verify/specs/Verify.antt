@@ -8,7 +8,7 @@ use Rattle.words.specs.Choice.{pick}
 use Rattle.words.specs.Lists.{member}
 use Rattle.container.specs.Container.{Entry, slotCount, Container}
 use Rattle.container.specs.Reader.{Read, done, refused, layoutOf}
-use Rattle.starts.specs.Starts.{walkOf}
+use Rattle.starts.specs.Walk.{walkOf}
 use Rattle.container_verify.specs.Targets.{badTarget}
 use Rattle.starts.specs.declared.scan_answers.Scan.{Scan}
 use Rattle.starts.specs.declared.scan_answers.Scan.the-variants.{Whole, Undecodable, BadConst}
@@ -24,13 +24,13 @@ entryRefusal seen starts e =
     (pick (member (e .offset) starts) (pick (leb (slotCount e) 4096) none (some (AccessListTooLarge (e .selector))))
     (some (EntryOffsetMisaligned (e .selector))))
 
-unfoldable pub firstOf : Option VerifyError → Option VerifyError → Option VerifyError
-firstOf (some e) next = some e
-firstOf none next = next
+unfoldable pub firstRefusal : Option VerifyError → Option VerifyError → Option VerifyError
+firstRefusal (some e) next = some e
+firstRefusal none next = next
 
 unfoldable pub entriesRefusal : (seen starts : List ℕ) → List Entry → Option VerifyError
 entriesRefusal seen starts [] = none
-entriesRefusal seen starts (e ∷ es) = firstOf (entryRefusal seen starts e) (entriesRefusal (e .selector ∷ seen) starts es)
+entriesRefusal seen starts (e ∷ es) = firstRefusal (entryRefusal seen starts e) (entriesRefusal (e .selector ∷ seen) starts es)
 
 unfoldable pub targetRefusal : Option ℕ → Option VerifyError
 targetRefusal none = none
@@ -41,7 +41,7 @@ unfoldable pub codeRefusal : Scan → (starts : List ℕ) → Container → Opti
 codeRefusal (Undecodable place e) starts c = some (UndecodableCode place e)
 codeRefusal (BadConst k) starts c = some (ConstIndexOutOfRange k)
 codeRefusal Whole starts c =
-    firstOf (targetRefusal (badTarget (length (c .code)) (c .code) starts 0)) (entriesRefusal [] starts (c .entries))
+    firstRefusal (targetRefusal (badTarget (length (c .code)) (c .code) starts 0)) (entriesRefusal [] starts (c .entries))
 
 unfoldable pub verifyOf : Container → Option VerifyError
 verifyOf c =

@@ -8,8 +8,8 @@ ghost use Rattle.container.specs.Container.{Entry};
 ghost use Rattle.container.specs.Reader.{read, entries};
 ghost use Rattle.container_verify.specs.Verify.{entriesRefusal};
 ghost use Rattle.starts.specs.Marks.{Holds};
-ghost use Rattle.container_verify.specs.Checks.{checkOf, Answers};
-use super::verify::Check;
+ghost use Rattle.container_verify.specs.Checks.{asCheck, Answers};
+use super::verify::CheckAnswer;
 use super::verify::VerifyError;
 use container::entries::EntryLayout;
 use container::entries::EntryRead;
@@ -29,27 +29,27 @@ fn among(seen: &[u64], selector: u64) -> bool
 }
 
 // An entry after those whose selectors were seen: a new selector, an offset that is a start, few slots.
-fn check_entry(map: &[u8], seen: &[u64], e: EntryLayout) -> Check
+fn check_entry(map: &[u8], seen: &[u64], e: EntryLayout) -> CheckAnswer
     ensures { λ r. ⌜ Answers (now (map .entry)) (now (seen .entry)) e r ⌝ }
 {
     let selector = e.selector;
     if among(seen, selector) {
-        return Check::Failed(VerifyError::DuplicateSelector(selector));
+        return CheckAnswer::Failed(VerifyError::DuplicateSelector(selector));
     }
     if !starts::marks::is_start(map, e.offset) {
-        return Check::Failed(VerifyError::EntryOffsetMisaligned(selector));
+        return CheckAnswer::Failed(VerifyError::EntryOffsetMisaligned(selector));
     }
     if !container::entries::slots_within_limit(e) {
-        return Check::Failed(VerifyError::AccessListTooLarge(selector));
+        return CheckAnswer::Failed(VerifyError::AccessListTooLarge(selector));
     }
-    Check::Passed
+    CheckAnswer::Passed
 }
 
 // The n entries from a place on, against a map of the starts. Selectors seen stand at the array's end, the last one first.
-pub fn check_entries(s: &[u8], map: &[u8], first: usize, n: usize) -> Check
+pub fn check_entries(s: &[u8], map: &[u8], first: usize, n: usize) -> CheckAnswer
     requires { ⌜ n ≤ 256 ⌝ }
     ensures { λ r. ⌜ ((es : List Entry) (t starts : List ℕ) → entries n (drop first (now (s .entry))) ≡ read es t →
-        Holds (now (map .entry)) starts → r ≡ checkOf (entriesRefusal [] starts es)) ⌝ }
+        Holds (now (map .entry)) starts → r ≡ asCheck (entriesRefusal [] starts es)) ⌝ }
 {
     let mut seen = [0u64; 256];
     let mut free = 256;
@@ -57,15 +57,15 @@ pub fn check_entries(s: &[u8], map: &[u8], first: usize, n: usize) -> Check
     let mut more = n;
     while 0 < more {
         let EntryRead::Done(e) = container::entries::entry_at(s, at) else {
-            return Check::Passed;
+            return CheckAnswer::Passed;
         };
-        if let Check::Failed(x) = check_entry(map, &seen[free..], e) {
-            return Check::Failed(x);
+        if let CheckAnswer::Failed(x) = check_entry(map, &seen[free..], e) {
+            return CheckAnswer::Failed(x);
         }
         free -= 1;
         seen[free] = e.selector;
         at = e.end;
         more -= 1;
     }
-    Check::Passed
+    CheckAnswer::Passed
 }

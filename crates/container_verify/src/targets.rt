@@ -3,14 +3,14 @@ ghost use mathlib.Core.Path.{_≡_};
 ghost use mathlib.Core.List.{List};
 ghost use Prim.Native.Nat.{ℕ};
 ghost use lib.ListN.{length};
-ghost use Rattle.container_verify.specs.Targets.{badTarget, targetOf, standsOf};
+ghost use Rattle.container_verify.specs.Targets.{badTarget, targetStands, standsOf};
 ghost use Rattle.starts.specs.Marks.{marked, Holds};
 use isa::codec::Decoded;
 use isa::flow::Refers;
 use starts::scan_answers::Stands;
 
 fn target_of(r: Refers, map: &[u8]) -> Stands
-    ensures { λ t. ⌜ t ≡ targetOf r (marked (now (map .entry))) ⌝ }
+    ensures { λ t. ⌜ t ≡ targetStands r (marked (now (map .entry))) ⌝ }
 {
     match r {
         Refers::Target(t) => {

@@ -1,17 +1,14 @@
 // What a container must be to be run.
 ghost use mathlib.Core.Path.{_≡_};
-ghost use mathlib.Core.List.{List};
-ghost use Prim.Native.Nat.{ℕ, _≤_};
+ghost use Prim.Native.Nat.{_≤_};
 ghost use lib.ListN.{length};
 ghost use Rattle.container.specs.Container.{Container};
 ghost use Rattle.container.specs.Reader.{readOf};
-ghost use Rattle.starts.specs.Starts.{walkOf};
-ghost use Rattle.starts.specs.Marks.{Holds};
+ghost use Rattle.starts.specs.Walk.{walkOf};
 ghost use Rattle.container_verify.specs.Verify.{codeRefusal, verifyOf, verifiedOf};
-ghost use Rattle.container_verify.specs.Checks.{checkOf};
+ghost use Rattle.container_verify.specs.Checks.{asCheck};
 ghost use Rattle.container.specs.LaidOut.{LaidOut};
 ghost use Rattle.container_verify.specs.Answers.{verifyError};
-ghost use Rattle.starts.specs.declared.scan_answers.Scan.the-variants.{Whole};
 use container::reader::Layout;
 use container::reader::ReadError;
 use container::reader::Reading;
@@ -33,7 +30,7 @@ pub enum VerifyError {
 }
 
 // Whether a check passed.
-pub enum Check {
+pub enum CheckAnswer {
     Passed,
     Failed(VerifyError),
 }
@@ -80,45 +77,38 @@ impl VerifyError {
     }
 }
 
-// Targets, then entries, against a map of the starts.
-fn check_rest(s: &[u8], code: &[u8], map: &[u8], l: Layout) -> Check
-    requires { ⌜ l .entries ≤ 256 ⌝ }
-    ensures { λ r. ⌜ ((c : Container) (starts : List ℕ) → LaidOut (now (s .entry)) (now (code .entry)) l c →
-        Holds (now (map .entry)) starts → r ≡ checkOf (codeRefusal Whole starts c)) ⌝ }
-{
-    if let Stands::No(t) = super::targets::targets(code, map) {
-        return Check::Failed(VerifyError::MisalignedTarget(t));
-    }
-    super::entry_checks::check_entries(s, map, l.entries_at, l.entries)
-}
-
-// The code, whose starts a map of 65536 bits holds; then the rest.
-fn check_code(s: &[u8], code: &[u8], l: Layout) -> Check
+// The code, whose starts a map of 65536 bits holds; then targets and entries against the map.
+fn check_code(s: &[u8], code: &[u8], l: Layout) -> CheckAnswer
     requires { ⌜ l .entries ≤ 256 ⌝ }
     ensures { λ r. ⌜ ((c : Container) → LaidOut (now (s .entry)) (now (code .entry)) l c → length (c .code) ≤ 65536 →
-        r ≡ checkOf (codeRefusal (walkOf (c .code) (length (c .consts)) .end) (walkOf (c .code) (length (c .consts)) .starts) c)) ⌝ }
+        r ≡ asCheck (codeRefusal (walkOf (c .code) (length (c .consts)) .end) (walkOf (c .code) (length (c .consts)) .starts) c)) ⌝ }
 {
     let mut map = [0u8; 8192];
     let r = starts::scan::scan(code, l.consts as u64, &mut map);
     match r {
-        Scan::Undecodable(place, e) => Check::Failed(VerifyError::UndecodableCode(place, e)),
-        Scan::BadConst(k) => Check::Failed(VerifyError::ConstIndexOutOfRange(k)),
-        Scan::Whole => check_rest(s, code, &map, l),
+        Scan::Undecodable(place, e) => CheckAnswer::Failed(VerifyError::UndecodableCode(place, e)),
+        Scan::BadConst(k) => CheckAnswer::Failed(VerifyError::ConstIndexOutOfRange(k)),
+        Scan::Whole => {
+            if let Stands::No(t) = super::targets::targets(code, &map) {
+                return CheckAnswer::Failed(VerifyError::MisalignedTarget(t));
+            }
+            super::entry_checks::check_entries(s, &map, l.entries_at, l.entries)
+        }
     }
 }
 
 // Sizes first.
-fn check_all(s: &[u8], code: &[u8], l: Layout) -> Check
-    ensures { λ r. ⌜ ((c : Container) → LaidOut (now (s .entry)) (now (code .entry)) l c → r ≡ checkOf (verifyOf c)) ⌝ }
+fn check_all(s: &[u8], code: &[u8], l: Layout) -> CheckAnswer
+    ensures { λ r. ⌜ ((c : Container) → LaidOut (now (s .entry)) (now (code .entry)) l c → r ≡ asCheck (verifyOf c)) ⌝ }
 {
     if 65536 < l.code {
-        return Check::Failed(VerifyError::CodeTooLarge);
+        return CheckAnswer::Failed(VerifyError::CodeTooLarge);
     }
     if 4096 < l.consts {
-        return Check::Failed(VerifyError::ConstsTooLarge);
+        return CheckAnswer::Failed(VerifyError::ConstsTooLarge);
     }
     if 256 < l.entries {
-        return Check::Failed(VerifyError::EntriesTooLarge);
+        return CheckAnswer::Failed(VerifyError::EntriesTooLarge);
     }
     check_code(s, code, l)
 }
@@ -135,8 +125,8 @@ pub fn verify(s: &[u8]) -> Verified
             let end = at + l.code;
             let c = check_all(s, &s[at..end], l);
             match c {
-                Check::Failed(e) => Verified::Refused(e),
-                Check::Passed => Verified::Valid(l),
+                CheckAnswer::Failed(e) => Verified::Refused(e),
+                CheckAnswer::Passed => Verified::Valid(l),
             }
         }
     }

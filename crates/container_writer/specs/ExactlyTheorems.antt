@@ -10,8 +10,8 @@ use lib.ListN.{length, take, drop}
 use borrow.Author.Tests.{le-leb, lt-leb, leb-true, leb-false, eq-eqb, ne-eqb, eqb-true, eqb-false}
 use Rattle.words.specs.Bytes.{num, beBytes, Bytes}
 use Rattle.words.specs.BytesTheorems.{read-back-all, write-back}
-use Rattle.container.specs.Container.{Container}
-use Rattle.container.specs.Canonical.{tag, canonical, Writable}
+use Rattle.container.specs.Container.{Container, tag}
+use Rattle.container.specs.Canonical.{canonical, Writable}
 use Rattle.container.specs.Reader.{Parsed, short, read, container, refused, whole, readOf}
 use Rattle.container_writer.specs.ReadBackTheorems.{begun}
 use Rattle.container_writer.specs.WrittenTheorems.{begins-with}
@@ -22,7 +22,7 @@ abbrev pub Tagged : List ℕ → Type 0
 Tagged s = take 4 s ≡ beBytes 4 tag
 
 -- a writable container's canonical bytes, and then t
-pub record Begun (s t : List ℕ) : Type 0 where
+pub record CanonicalThen (s t : List ℕ) : Type 0 where
   pub found : Container
   pub fine : Writable found
   pub is : s ≡ canonical found ++ t
@@ -38,7 +38,7 @@ data Outcome (s : List ℕ) : Type 0 where
   few : length s < 4 → Outcome s
   wrong : 4 ≤ length s → (Tagged s → ⊥) → Outcome s
   cut : 4 ≤ length s → Tagged s → container (drop 4 s) ≡ short → Outcome s
-  stands : (t : List ℕ) → Begun s t → Outcome s
+  stands : (t : List ℕ) → CanonicalThen s t → Outcome s
 
 outcome : (s : List ℕ) → Bytes s → Outcome s
 outcome s k = by (leb 4 (length s)) refl (eqb (num (take 4 s)) tag) refl (container (drop 4 s)) refl
@@ -64,7 +64,7 @@ cut-short : (s : List ℕ) → 4 ≤ length s → Tagged s → container (drop 4
 unfolding readOf whole
 cut-short s h g e = rw (le-leb 4 (length s) h, eq-eqb (num (take 4 s)) tag (tag-number s g), e)
 
-begun-whole : (s t : List ℕ) (b : Begun s t) → readOf s ≡ whole (read (b .found) t)
+begun-whole : (s t : List ℕ) (b : CanonicalThen s t) → readOf s ≡ whole (read (b .found) t)
 begun-whole s t b = ap readOf (b .is) ∙ begun (b .found) (b .fine) t
 
 -- 41: four bytes stand and are not the tag
@@ -80,15 +80,15 @@ bad-tag-when s k h = by (outcome s k)
     by (stands (x ∷ t) b) = let a = begun-whole s (x ∷ t) b in absurd (let z : _≡_ {A = ℕ} 0 1 = cc in omega arith)
 
 -- 43: a writable container's canonical bytes and at least one more
-pub trailing-then : (s : List ℕ) (x : ℕ) (t : List ℕ) → Begun s (x ∷ t) → readOf s ≡ refused Trailing
+pub trailing-then : (s : List ℕ) (x : ℕ) (t : List ℕ) → CanonicalThen s (x ∷ t) → readOf s ≡ refused Trailing
 unfolding whole
 trailing-then s x t b = begun-whole s (x ∷ t) b
 
-pub trailing-when : (s : List ℕ) → Bytes s → readOf s ≡ refused Trailing → (x : ℕ) × (t : List ℕ) × Begun s (x ∷ t)
+pub trailing-when : (s : List ℕ) → Bytes s → readOf s ≡ refused Trailing → (x : ℕ) × (t : List ℕ) × CanonicalThen s (x ∷ t)
 unfolding whole
 trailing-when s k h = by (outcome s k)
   where
-    by : Outcome s → (x : ℕ) × (t : List ℕ) × Begun s (x ∷ t)
+    by : Outcome s → (x : ℕ) × (t : List ℕ) × CanonicalThen s (x ∷ t)
     by (few l) = let a = few-short s l in absurd (let z : _≡_ {A = ℕ} 0 1 = cc in omega arith)
     by (wrong l n) = let a = bad-tag-then s k l n in absurd (let z : _≡_ {A = ℕ} 0 1 = cc in omega arith)
     by (cut l g e) = let a = cut-short s l g e in absurd (let z : _≡_ {A = ℕ} 0 1 = cc in omega arith)
@@ -97,13 +97,13 @@ trailing-when s k h = by (outcome s k)
 
 -- 42: fewer than four bytes, or the tag and no writable container's bytes
 abbrev pub EndsTooSoon : List ℕ → Type 0
-EndsTooSoon s = (length s < 4) ⊎ ((4 ≤ length s) × Tagged s × ((t : List ℕ) → Begun s t → ⊥))
+EndsTooSoon s = (length s < 4) ⊎ ((4 ≤ length s) × Tagged s × ((t : List ℕ) → CanonicalThen s t → ⊥))
 
 pub short-when : (s : List ℕ) → Bytes s → readOf s ≡ refused Short → EndsTooSoon s
 unfolding whole
 short-when s k h = by (outcome s k)
   where
-    none : (t : List ℕ) → Begun s t → ⊥
+    none : (t : List ℕ) → CanonicalThen s t → ⊥
     none [] b = let a = begun-whole s [] b in let z : _≡_ {A = ℕ} 0 1 = cc in omega arith
     none (x ∷ t) b = let a = begun-whole s (x ∷ t) b in let z : _≡_ {A = ℕ} 0 1 = cc in omega arith
 

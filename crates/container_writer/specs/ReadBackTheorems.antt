@@ -2,7 +2,7 @@
 use mathlib.Core.Path.{_≡_, refl, sym, ap, _∙_}
 use mathlib.Core.Bool.{true}
 use mathlib.Core.List.{List, [], _∷_, _++_, append-assoc, append-nil}
-use Prim.Native.Nat.{ℕ, _+_, _*_, _^_, _≤_, _<_}
+use Prim.Native.Nat.{ℕ, _*_, _^_, _≤_, _<_}
 use native.Mathlib.Omega.{arith}
 use lib.Dec.{leb}
 use lib.ListN.{length, take, drop, length-append}
@@ -11,10 +11,10 @@ use borrow.Author.Tests.{le-leb, eq-eqb}
 use Rattle.words.specs.Bytes.{num, beBytes, wordsOf}
 use Rattle.words.specs.BytesLaws.{length-beBytes}
 use Rattle.words.specs.BytesTheorems.{read-back-all}
-use Rattle.container.specs.Container.{Entry, Container}
-use Rattle.container.specs.Canonical.{tag, wordBytes, countedBytes, entryBytes, entriesBytes, canonical, Words, Counted, WritableEntry, WritableEntries, Writable}
+use Rattle.container.specs.Container.{Entry, Container, tag}
+use Rattle.container.specs.Canonical.{wordBytes, countedBytes, entryBytes, entriesBytes, canonical, Words, CountedWords, WritableEntry, WritableEntries, Writable}
 use Rattle.container.specs.Reader.{read, part, number, counted, entry, entries, container, whole, done, readOf}
-use Rattle.container_writer.specs.WriterLaidLaws.{length-words}
+use Rattle.container_writer.specs.WriterLaidLaws.{length-word-bytes}
 
 part-back : (n : ℕ) (b t : List ℕ) → length b ≡ n → part n (b ++ t) ≡ read b t
 unfolding part
@@ -35,13 +35,13 @@ words-back (x ∷ xs) h =
       words-back xs (h .1),
     )
 
-counted-back : (xs t : List ℕ) → Counted xs → counted (countedBytes xs ++ t) ≡ read xs t
+counted-back : (xs t : List ℕ) → CountedWords xs → counted (countedBytes xs ++ t) ≡ read xs t
 unfolding counted countedBytes
 counted-back xs t h =
     rw (
       append-assoc (beBytes 4 (length xs)) (wordBytes xs) t,
       number-back 4 (length xs) (wordBytes xs ++ t) (h .count),
-      part-back (length xs * 8) (wordBytes xs) t (length-words xs),
+      part-back (length xs * 8) (wordBytes xs) t (length-word-bytes xs),
       words-back xs (h .words),
     )
 

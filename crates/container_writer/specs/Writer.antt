@@ -5,8 +5,9 @@ use mathlib.Core.List.{List, [], _∷_, _++_}
 use mathlib.Core.Option.{Option, some, none}
 use Prim.Native.Nat.{ℕ, zero, suc, _+_, _^_}
 use lib.Dec.{ltb, leb}
-use lib.ListN.{length, getD, take, drop}
+use lib.ListN.{length, take, drop}
 use Rattle.words.specs.Choice.{pick, both}
+use Rattle.words.specs.Lists.{nth}
 use Rattle.container.specs.Container.{Entry, Container}
 use Rattle.container.specs.Canonical.{canonical}
 use Rattle.container_writer.specs.declared.writer.Written.{Written}
@@ -17,12 +18,9 @@ unfoldable pub allShort : List ℕ → Bool
 allShort [] = true
 allShort (x ∷ xs) = both (ltb x (2 ^ 32)) (allShort xs)
 
-abbrev pub at : List ℕ → ℕ → ℕ
-at xs k = getD xs k 0
-
 -- how many slots the entry declares that a list begins with
 unfoldable pub slotsIn : List ℕ → ℕ
-slotsIn xs = at xs 2 + at xs 3 + at xs 4 + at xs 5
+slotsIn xs = nth xs 2 + nth xs 3 + nth xs 4 + nth xs 5
 
 -- whether a list begins with an entry: six numbers within four bytes, and the slots
 unfoldable pub beginsEntry : List ℕ → Bool
@@ -30,12 +28,12 @@ beginsEntry xs = both (leb 6 (length xs)) (both (allShort (take 6 xs)) (leb (6 +
 
 unfoldable pub entryIn : List ℕ → Entry
 entryIn xs = record {
-  selector = at xs 0;
-  offset = at xs 1;
-  reads = take (at xs 2) (drop 6 xs);
-  writes = take (at xs 3) (drop (6 + at xs 2) xs);
-  keyed-reads = take (at xs 4) (drop (6 + at xs 2 + at xs 3) xs);
-  keyed-writes = take (at xs 5) (drop (6 + at xs 2 + at xs 3 + at xs 4) xs);
+  selector = nth xs 0;
+  offset = nth xs 1;
+  reads = take (nth xs 2) (drop 6 xs);
+  writes = take (nth xs 3) (drop (6 + nth xs 2) xs);
+  keyed-reads = take (nth xs 4) (drop (6 + nth xs 2 + nth xs 3) xs);
+  keyed-writes = take (nth xs 5) (drop (6 + nth xs 2 + nth xs 3 + nth xs 4) xs);
 }
 
 unfoldable pub withEntry : Entry → Option (List Entry) → Option (List Entry)
@@ -69,11 +67,11 @@ writtenOf none out = BadList
 writtenOf (some c) out = pick (leb (length (canonical c)) (length out)) (Done (length (canonical c))) NoRoom
 
 -- what is left in the output: the canonical bytes and what stood after them, or all as it was
-unfoldable pub outputBy : Written → Option Container → (out : List ℕ) → List ℕ
-outputBy (Done n) (some c) out = canonical c ++ drop n out
-outputBy (Done n) none out = out
-outputBy BadList c out = out
-outputBy NoRoom c out = out
+unfoldable pub writerOutputBy : Written → Option Container → (out : List ℕ) → List ℕ
+writerOutputBy (Done n) (some c) out = canonical c ++ drop n out
+writerOutputBy (Done n) none out = out
+writerOutputBy BadList c out = out
+writerOutputBy NoRoom c out = out
 
-unfoldable pub outputOf : Option Container → (out : List ℕ) → List ℕ
-outputOf c out = outputBy (writtenOf c out) c out
+unfoldable pub writerOutput : Option Container → (out : List ℕ) → List ℕ
+writerOutput c out = writerOutputBy (writtenOf c out) c out

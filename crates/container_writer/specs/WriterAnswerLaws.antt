@@ -9,11 +9,12 @@ use lib.Dec.{ltb}
 use lib.ListN.{length}
 use lib.Seq.{take-all}
 use borrow.Author.Tests.{ltb-true, ltb-false, le-ltb, lt-ltb, le-leb, lt-leb}
+use Rattle.words.specs.Choice.{isSome}
 use Rattle.container.specs.Container.{Entry, Container}
 use Rattle.container.specs.Canonical.{canonical}
-use Rattle.container_writer.specs.Writer.{listed, withCode, toWrite, writtenOf, outputBy, outputOf}
+use Rattle.container_writer.specs.Writer.{listed, withCode, toWrite, writtenOf, writerOutputBy, writerOutput}
 use Rattle.words.specs.Laid.{Laid}
-use Rattle.container_writer.specs.WriterParts.{isSome, orEmpty, containerOf}
+use Rattle.container_writer.specs.WriterParts.{orEmpty, containerOf}
 use Rattle.container_writer.specs.declared.writer.Written.{Written}
 use Rattle.container_writer.specs.declared.writer.Written.the-variants.{Done, BadList, NoRoom}
 
@@ -48,19 +49,19 @@ module _ (code consts list : List ℕ) (h : length code < 2 ^ 32) (k : length co
   a-list s = rw (lt-ltb (length code) (2 ^ 32) h, lt-ltb (length consts) (2 ^ 32) k) (with-code code consts (listed list) s)
 
 -- and where there is one, it is that of the list
-pub record Sound (code consts list : List ℕ) (c : Container) : Type 0 where
+pub record ListSound (code consts list : List ℕ) (c : Container) : Type 0 where
   pub short-code : length code < 2 ^ 32
   pub short-consts : length consts < 2 ^ 32
   pub lists : isSome (listed list) ≡ true
   pub is : c ≡ containerOf code consts list
 
-pub sound : (code consts list : List ℕ) (c : Container) → toWrite code consts list ≡ some c → Sound code consts list c
+pub sound : (code consts list : List ℕ) (c : Container) → toWrite code consts list ≡ some c → ListSound code consts list c
 sound code consts list c e = by (ltb (length code) (2 ^ 32)) (ltb (length consts) (2 ^ 32)) (isSome (listed list)) refl refl refl
   where
     never : toWrite code consts list ≡ none → ⊥
     never n = let z : none ≡ some c = sym n ∙ e in let w : _≡_ {A = ℕ} 0 1 = cc in omega arith
 
-    by : (x y z : Bool) → ltb (length code) (2 ^ 32) ≡ x → ltb (length consts) (2 ^ 32) ≡ y → isSome (listed list) ≡ z → Sound code consts list c
+    by : (x y z : Bool) → ltb (length code) (2 ^ 32) ≡ x → ltb (length consts) (2 ^ 32) ≡ y → isSome (listed list) ≡ z → ListSound code consts list c
     by false y z p q r = absurd (never (long-code code consts list (ltb-false (length code) (2 ^ 32) p)))
     by true false z p q r = absurd (never (long-consts code consts list (ltb-true (length code) (2 ^ 32) p) (ltb-false (length consts) (2 ^ 32) q)))
     by true true false p q r = absurd (never (no-list code consts list (ltb-true (length code) (2 ^ 32) p) (ltb-true (length consts) (2 ^ 32) q) r))
@@ -71,15 +72,15 @@ sound code consts list c e = by (ltb (length code) (2 ^ 32)) (ltb (length consts
         record { short-code = h; short-consts = k; lists = r; is = Option·some-injective c (containerOf code consts list) s }
 
 -- an answer with the output that goes with it
-abbrev pub Answers : Option Container → (out : List ℕ) → Written → List ℕ → Type 0
-Answers o out r e = (r ≡ writtenOf o out) × (e ≡ outputOf o out)
+abbrev pub WriteAnswers : Option Container → (out : List ℕ) → Written → List ℕ → Type 0
+WriteAnswers o out r e = (r ≡ writtenOf o out) × (e ≡ writerOutput o out)
 
-pub refused : (o : Option Container) (out : List ℕ) → o ≡ none → Answers o out BadList out
-unfolding writtenOf outputOf outputBy
-refused o out e = rw e (refl, refl)
+pub answer-refused : (o : Option Container) (out : List ℕ) → o ≡ none → WriteAnswers o out BadList out
+unfolding writtenOf writerOutput writerOutputBy
+answer-refused o out e = rw e (refl, refl)
 
-pub no-room : (o : Option Container) (out : List ℕ) (c : Container) → o ≡ some c → length out < length (canonical c) → Answers o out NoRoom out
-unfolding writtenOf outputOf outputBy
+pub no-room : (o : Option Container) (out : List ℕ) (c : Container) → o ≡ some c → length out < length (canonical c) → WriteAnswers o out NoRoom out
+unfolding writtenOf writerOutput writerOutputBy
 no-room o out c e h = rw (e, lt-leb (length (canonical c)) (length out) h) (refl, refl)
 
 pub written-done : (o : Option Container) (out : List ℕ) (c : Container) → o ≡ some c → length (canonical c) ≤ length out →
@@ -87,10 +88,10 @@ pub written-done : (o : Option Container) (out : List ℕ) (c : Container) → o
 unfolding writtenOf
 written-done o out c e h = rw (e, le-leb (length (canonical c)) (length out) h)
 
-pub done : (o : Option Container) (out v : List ℕ) (c : Container) (r : ℕ) → o ≡ some c → length (canonical c) ≤ length out →
-    Laid out 0 (canonical c) v r → Answers o out (Done r) v
-unfolding outputOf outputBy
-done o out v c r e h l =
+pub answer-done : (o : Option Container) (out v : List ℕ) (c : Container) (r : ℕ) → o ≡ some c → length (canonical c) ≤ length out →
+    Laid out 0 (canonical c) v r → WriteAnswers o out (Done r) v
+unfolding writerOutput writerOutputBy
+answer-done o out v c r e h l =
     let w = written-done o out c e h in
     let n : r ≡ length (canonical c) = omega (arith, l .end) in
     let z : 0 + length (canonical c) ≡ length (canonical c) = omega arith in

@@ -10,11 +10,12 @@ use lib.Dec.{ltb, leb, eqb}
 use lib.ListN.{length, take, drop, length-drop, drop-of-length-le}
 use lib.Seq.{drop-cons, drop-drop, getD-take, length-take-le}
 use borrow.Author.Tests.{ltb-true, leb-true, eqb-true, eqb-false, le-ltb, lt-ltb, le-leb, lt-leb, eq-eqb, ne-eqb}
-use Rattle.words.specs.Choice.{pick, both}
+use Rattle.words.specs.Choice.{pick, both, isSome}
 use Rattle.container.specs.Container.{Entry}
 use Rattle.container.specs.Canonical.{entryBytes, entriesBytes}
-use Rattle.container_writer.specs.Writer.{allShort, at, slotsIn, beginsEntry, entryIn, withEntry, nothingLeft, entriesIn, listed}
-use Rattle.container_writer.specs.WriterParts.{Begins, isSome, orEmpty}
+use Rattle.words.specs.Lists.{nth}
+use Rattle.container_writer.specs.Writer.{allShort, slotsIn, beginsEntry, entryIn, withEntry, nothingLeft, entriesIn, listed}
+use Rattle.container_writer.specs.WriterParts.{BeginsEntry, orEmpty}
 
 both-left : (a b : Bool) → both a b ≡ true → a ≡ true
 both-left true b e = refl
@@ -25,7 +26,7 @@ both-right true b e = e
 both-right false b e = let z : _≡_ {A = ℕ} 0 1 = cc in absurd (omega arith)
 
 -- what is left of the numbers decides
-pub short-turn : (xs : List ℕ) (i : ℕ) → i < length xs → allShort (drop i xs) ≡ both (ltb (at xs i) (2 ^ 32)) (allShort (drop (i + 1) xs))
+pub short-turn : (xs : List ℕ) (i : ℕ) → i < length xs → allShort (drop i xs) ≡ both (ltb (nth xs i) (2 ^ 32)) (allShort (drop (i + 1) xs))
 unfolding allShort
 short-turn xs i h = rw (add-one, drop-cons xs i 0)
 
@@ -33,17 +34,17 @@ pub short-end : (xs : List ℕ) (i : ℕ) → length xs ≤ i → allShort (drop
 unfolding allShort
 short-end xs i h = rw (drop-of-length-le xs h)
 
-short-at : (xs : List ℕ) (k : ℕ) → allShort xs ≡ true → k < length xs → at xs k < 2 ^ 32
+short-at : (xs : List ℕ) (k : ℕ) → allShort xs ≡ true → k < length xs → nth xs k < 2 ^ 32
 unfolding allShort
 short-at [] k e h = absurd (omega arith)
 short-at (x ∷ xs) zero e h = ltb-true x (2 ^ 32) (both-left (ltb x (2 ^ 32)) (allShort xs) e)
 short-at (x ∷ xs) (suc k) e h = short-at xs k (both-right (ltb x (2 ^ 32)) (allShort xs) e) (omega arith)
 
-pub six-short : (xs : List ℕ) (k : ℕ) → 6 ≤ length xs → allShort (take 6 xs) ≡ true → k < 6 → at xs k < 2 ^ 32
+pub six-short : (xs : List ℕ) (k : ℕ) → 6 ≤ length xs → allShort (take 6 xs) ≡ true → k < 6 → nth xs k < 2 ^ 32
 six-short xs k h e l = rw (getD-take 6 xs k 0 l) at (short-at (take 6 xs) k e (rw (length-take-le 6 xs h) l))
 
 -- an entry that a list begins with
-pub begins : (xs : List ℕ) → beginsEntry xs ≡ true → Begins xs
+pub begins : (xs : List ℕ) → beginsEntry xs ≡ true → BeginsEntry xs
 unfolding beginsEntry
 begins xs e =
     let s = allShort (take 6 xs) in
@@ -71,7 +72,7 @@ begins-by xs n h e k = rw (le-leb 6 (length xs) h, e, k)
 pub slots-below : (xs : List ℕ) → 6 ≤ length xs → allShort (take 6 xs) ≡ true → slotsIn xs < 2 ^ 34
 unfolding slotsIn
 slots-below xs h e =
-    let s : (k : ℕ) → k < 6 → at xs k < 2 ^ 32 = λ k l. six-short xs k h e l in
+    let s : (k : ℕ) → k < 6 → nth xs k < 2 ^ 32 = λ k l. six-short xs k h e l in
     omega (arith, s 2 (omega arith), s 3 (omega arith), s 4 (omega arith), s 5 (omega arith))
 
 -- the rest of a list after the entry that it begins with
@@ -114,11 +115,11 @@ is-whole n k xs h l = is-end n (drop k xs) h ∙ rw (length-drop k xs) (by (eqb 
     by false e = ne-eqb 0 (length xs - k) (λ z. eqb-false k (length xs) e (omega arith))
 
 -- the entry at a place of a list, with n slots: it stands whole, and the rest follows
-pub record Step (list : List ℕ) (place n : ℕ) : Type 0 where
+pub record EntryStep (list : List ℕ) (place n : ℕ) : Type 0 where
   pub within : place + (6 + n) ≤ length list
   pub after : afterEntry (drop place list) ≡ drop (place + (6 + n)) list
 
-pub step : (list : List ℕ) (place n : ℕ) → place ≤ length list → beginsEntry (drop place list) ≡ true → n ≡ slotsIn (drop place list) → Step list place n
+pub step : (list : List ℕ) (place n : ℕ) → place ≤ length list → beginsEntry (drop place list) ≡ true → n ≡ slotsIn (drop place list) → EntryStep list place n
 step list place n l b e =
     record {
       within = omega (arith, begins (drop place list) b .whole, length-drop place list, e);
@@ -165,26 +166,26 @@ unfolding listed
 listed-empty [] h = refl
 listed-empty (x ∷ xs) h = absurd (omega arith)
 
-pub listed-large : (xs : List ℕ) → 2 ^ 32 ≤ at xs 0 → isSome (listed xs) ≡ false
+pub listed-large : (xs : List ℕ) → 2 ^ 32 ≤ nth xs 0 → isSome (listed xs) ≡ false
 unfolding listed
 listed-large [] h = refl
 listed-large (x ∷ xs) h = rw (le-ltb x (2 ^ 32) h)
 
-pub listed-is : (xs : List ℕ) → 0 < length xs → at xs 0 < 2 ^ 32 → listed xs ≡ entriesIn (at xs 0) (drop 1 xs)
+pub listed-is : (xs : List ℕ) → 0 < length xs → nth xs 0 < 2 ^ 32 → listed xs ≡ entriesIn (nth xs 0) (drop 1 xs)
 unfolding listed
 listed-is [] h l = absurd (omega arith)
 listed-is (x ∷ xs) h l = rw (lt-ltb x (2 ^ 32) l)
 
-pub record Listed (xs : List ℕ) : Type 0 where
+pub record ListStands (xs : List ℕ) : Type 0 where
   pub stands : 0 < length xs
-  pub small : at xs 0 < 2 ^ 32
-  pub is : listed xs ≡ entriesIn (at xs 0) (drop 1 xs)
+  pub small : nth xs 0 < 2 ^ 32
+  pub is : listed xs ≡ entriesIn (nth xs 0) (drop 1 xs)
 
-pub listed-so : (xs : List ℕ) → isSome (listed xs) ≡ true → Listed xs
+pub listed-so : (xs : List ℕ) → isSome (listed xs) ≡ true → ListStands xs
 unfolding listed
 listed-so [] s = let z : _≡_ {A = ℕ} 0 1 = cc in absurd (omega arith)
 listed-so (x ∷ xs) s = by (ltb x (2 ^ 32)) refl
   where
-    by : (t : Bool) → ltb x (2 ^ 32) ≡ t → Listed (x ∷ xs)
+    by : (t : Bool) → ltb x (2 ^ 32) ≡ t → ListStands (x ∷ xs)
     by true e = let l : x < 2 ^ 32 = ltb-true x (2 ^ 32) e in record { stands = omega arith; small = l; is = listed-is (x ∷ xs) (omega arith) l }
     by false e = let z : true ≡ false = sym s ∙ rw e in let w : _≡_ {A = ℕ} 0 1 = cc in absurd (omega arith)

@@ -1,6 +1,6 @@
 -- What the parts of the writer promise each other.
 use mathlib.Core.Path.{_≡_}
-use mathlib.Core.Bool.{Bool, true, false}
+use mathlib.Core.Bool.{true}
 use mathlib.Core.List.{List, []}
 use mathlib.Core.Option.{Option, some, none}
 use Prim.Native.Nat.{ℕ, _+_, _≤_}
@@ -9,15 +9,10 @@ use Rattle.container.specs.Container.{Entry, Container}
 use Rattle.container_writer.specs.Writer.{allShort, slotsIn, listed}
 
 -- a list begins with an entry: six numbers within four bytes, and the slots
-pub record Begins (xs : List ℕ) : Type 0 where
+pub record BeginsEntry (xs : List ℕ) : Type 0 where
   pub six : 6 ≤ length xs
   pub short : allShort (take 6 xs) ≡ true
   pub whole : 6 + slotsIn xs ≤ length xs
-
--- whether there is one
-abbrev pub isSome : {A : Type 0} → Option A → Bool
-isSome none = false
-isSome (some a) = true
 
 -- the entries of a list that is one
 abbrev pub orEmpty : Option (List Entry) → List Entry

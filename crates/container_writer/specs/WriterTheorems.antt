@@ -12,12 +12,13 @@ use borrow.Author.Tests.{leb-true, leb-false}
 use Rattle.words.specs.Bytes.{Bytes}
 use Rattle.container.specs.Container.{Container}
 use Rattle.container.specs.Canonical.{Words, Writable, canonical}
-use Rattle.container_writer.specs.Writer.{at, allShort, slotsIn, beginsEntry, entryIn, withEntry, nothingLeft, entriesIn, listed, withCode, toWrite, writtenOf, outputBy, outputOf}
+use Rattle.words.specs.Lists.{nth}
+use Rattle.container_writer.specs.Writer.{allShort, slotsIn, beginsEntry, entryIn, withEntry, nothingLeft, entriesIn, listed, withCode, toWrite, writtenOf, writerOutputBy, writerOutput}
 use Rattle.container_writer.specs.WriterLaws.{listed-so}
-use Rattle.container_writer.specs.WriterSizeLaws.{sized}
-use Rattle.container_writer.specs.WriterAnswerLaws.{sound, refused, no-room, written-done}
+use Rattle.container_writer.specs.WriterSizeLaws.{entries-sized}
+use Rattle.container_writer.specs.WriterAnswerLaws.{sound, answer-refused, no-room, written-done}
 use Rattle.container_writer.specs.WriterWidthLaws.{words-drop, writable-entries}
-use Rattle.container.specs.Cases.{example}
+use Rattle.container.specs.CaseTheorems.{example}
 use Rattle.container_writer.specs.declared.writer.Written.{Written}
 use Rattle.container_writer.specs.declared.writer.Written.the-variants.{Done, BadList, NoRoom}
 
@@ -30,8 +31,8 @@ to-write-writable code consts list c e b k w =
       code = s .short-code;
       bytes = b;
       consts = record { count = s .short-consts; words = k };
-      count = omega (arith, sized (at list 0) (drop 1 list) (rw (l .is) at (s .lists)) .count, l .small);
-      entries = writable-entries (at list 0) (drop 1 list) (rw (l .is) at (s .lists)) (words-drop 1 list w);
+      count = omega (arith, entries-sized (nth list 0) (drop 1 list) (rw (l .is) at (s .lists)) .count, l .small);
+      entries = writable-entries (nth list 0) (drop 1 list) (rw (l .is) at (s .lists)) (words-drop 1 list w);
     })
 
 -- what each answer says
@@ -53,7 +54,7 @@ by-answer (some c) out w e = by (leb (length (canonical c)) (length out)) refl
 module _ (code consts list out : List ℕ) where
   -- 49 exactly where there is no container to write
   pub bad-list : (writtenOf (toWrite code consts list) out ≡ BadList) ↔ (toWrite code consts list ≡ none)
-  bad-list = (by-answer (toWrite code consts list) out BadList, λ e. sym (refused (toWrite code consts list) out e .0))
+  bad-list = (by-answer (toWrite code consts list) out BadList, λ e. sym (answer-refused (toWrite code consts list) out e .0))
 
   -- 48 exactly where there is one and the output is shorter than its bytes
   pub short-output : (writtenOf (toWrite code consts list) out ≡ NoRoom) ↔
@@ -69,11 +70,11 @@ module _ (code consts list out : List ℕ) where
   )
 
   -- what is not done leaves the output as it was
-  pub refused-keeps : ((n : ℕ) → writtenOf (toWrite code consts list) out ≡ Done n → ⊥) → outputOf (toWrite code consts list) out ≡ out
-  unfolding outputOf outputBy
+  pub refused-keeps : ((n : ℕ) → writtenOf (toWrite code consts list) out ≡ Done n → ⊥) → writerOutput (toWrite code consts list) out ≡ out
+  unfolding writerOutput writerOutputBy
   refused-keeps h = by (toWrite code consts list) (writtenOf (toWrite code consts list) out) h
     where
-      by : (o : Option Container) (w : Written) → ((n : ℕ) → w ≡ Done n → ⊥) → outputBy w o out ≡ out
+      by : (o : Option Container) (w : Written) → ((n : ℕ) → w ≡ Done n → ⊥) → writerOutputBy w o out ≡ out
       by o (Done n) k = absurd (k n refl)
       by o BadList k = refl
       by o NoRoom k = refl

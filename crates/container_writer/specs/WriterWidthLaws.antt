@@ -5,9 +5,11 @@ use mathlib.Core.List.{List, [], _∷_}
 use Prim.Native.Nat.{ℕ, zero, suc, _+_, _-_, _^_, _<_}
 use native.Mathlib.Omega.{arith}
 use lib.ListN.{take, drop, length-take}
-use Rattle.container.specs.Canonical.{Words, Counted, WritableEntry, WritableEntries}
-use Rattle.container_writer.specs.Writer.{at, slotsIn, entryIn, entriesIn}
-use Rattle.container_writer.specs.WriterParts.{Begins, isSome, orEmpty}
+use Rattle.words.specs.Choice.{isSome}
+use Rattle.container.specs.Canonical.{Words, CountedWords, WritableEntry, WritableEntries}
+use Rattle.words.specs.Lists.{nth}
+use Rattle.container_writer.specs.Writer.{slotsIn, entryIn, entriesIn}
+use Rattle.container_writer.specs.WriterParts.{BeginsEntry, orEmpty}
 use Rattle.container_writer.specs.WriterLaws.{six-short, begins, afterEntry, more, none-left}
 
 words-take : (n : ℕ) (xs : List ℕ) → Words xs → Words (take n xs)
@@ -20,23 +22,23 @@ words-drop zero xs w = w
 words-drop (suc n) [] w = tt
 words-drop (suc n) (x ∷ xs) w = words-drop n xs (w .1)
 
-counted-part : (xs : List ℕ) (from n : ℕ) → n < 2 ^ 32 → Words xs → Counted (take n (drop from xs))
+counted-part : (xs : List ℕ) (from n : ℕ) → n < 2 ^ 32 → Words xs → CountedWords (take n (drop from xs))
 counted-part xs from n h w = record {
   count = omega (arith, length-take n (drop from xs));
   words = words-take n (drop from xs) (words-drop from xs w);
 }
 
-writable-entry : (xs : List ℕ) → Begins xs → Words xs → WritableEntry (entryIn xs)
+writable-entry : (xs : List ℕ) → BeginsEntry xs → Words xs → WritableEntry (entryIn xs)
 unfolding entryIn
 writable-entry xs b w =
-    let short : (k : ℕ) → k < 6 → at xs k < 2 ^ 32 = λ k l. six-short xs k (b .six) (b .short) l in
+    let short : (k : ℕ) → k < 6 → nth xs k < 2 ^ 32 = λ k l. six-short xs k (b .six) (b .short) l in
     record {
       selector = short 0 (omega arith);
       offset = short 1 (omega arith);
-      reads = counted-part xs 6 (at xs 2) (short 2 (omega arith)) w;
-      writes = counted-part xs (6 + at xs 2) (at xs 3) (short 3 (omega arith)) w;
-      keyed-reads = counted-part xs (6 + at xs 2 + at xs 3) (at xs 4) (short 4 (omega arith)) w;
-      keyed-writes = counted-part xs (6 + at xs 2 + at xs 3 + at xs 4) (at xs 5) (short 5 (omega arith)) w;
+      reads = counted-part xs 6 (nth xs 2) (short 2 (omega arith)) w;
+      writes = counted-part xs (6 + nth xs 2) (nth xs 3) (short 3 (omega arith)) w;
+      keyed-reads = counted-part xs (6 + nth xs 2 + nth xs 3) (nth xs 4) (short 4 (omega arith)) w;
+      keyed-writes = counted-part xs (6 + nth xs 2 + nth xs 3 + nth xs 4) (nth xs 5) (short 5 (omega arith)) w;
     }
 
 pub writable-entries : (n : ℕ) (xs : List ℕ) → isSome (entriesIn n xs) ≡ true → Words xs → WritableEntries (orEmpty (entriesIn n xs))

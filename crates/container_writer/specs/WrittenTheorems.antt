@@ -11,12 +11,12 @@ use borrow.Author.Tests.{leb-true, ltb-true, ltb-false}
 use Rattle.words.specs.Choice.{pick}
 use Rattle.words.specs.Bytes.{num, beBytes, Bytes, wordsOf}
 use Rattle.words.specs.BytesTheorems.{write-back, num-below}
-use Rattle.container.specs.Container.{Entry, Container}
-use Rattle.container.specs.Canonical.{tag, wordBytes, countedBytes, entryBytes, entriesBytes, canonical, Words, Counted, WritableEntry, WritableEntries, Writable}
+use Rattle.container.specs.Container.{Entry, Container, tag}
+use Rattle.container.specs.Canonical.{wordBytes, countedBytes, entryBytes, entriesBytes, canonical, Words, CountedWords, WritableEntry, WritableEntries, Writable}
 use Rattle.container.specs.Reader.{short, read, part, number, counted, entry, entries, container, done, readOf}
 use Rattle.words.specs.BytesLaws.{length-words}
-use Rattle.container.specs.EntryTold.{both-read}
-use Rattle.container.specs.ReadTold.{read-done}
+use Rattle.container.specs.EntryToldLaws.{both-read}
+use Rattle.container.specs.ReadToldLaws.{read-done}
 use Rattle.container_writer.specs.ReadBackTheorems.{read-after-write}
 
 front-bytes : (b t : List ℕ) → Bytes (b ++ t) → Bytes b
@@ -30,16 +30,16 @@ back-bytes : (b t : List ℕ) → Bytes (b ++ t) → Bytes t
 back-bytes b t h k = rw (getD-append-add b t k 0) at (h (length b + k))
 
 -- bytes that begin with those of something good
-pub record Begins (b s t : List ℕ) (good : Type 0) : Type 0 where
+pub record BeginsWith (b s t : List ℕ) (good : Type 0) : Type 0 where
   pub is : s ≡ b ++ t
   pub fine : good
   pub rest : Bytes t
 
-part-split : (n : ℕ) (s b t : List ℕ) → part n s ≡ read b t → Bytes s → Begins b s t ((length b ≡ n) × Bytes b)
+part-split : (n : ℕ) (s b t : List ℕ) → part n s ≡ read b t → Bytes s → BeginsWith b s t ((length b ≡ n) × Bytes b)
 unfolding part
 part-split n s b t h k = by (leb n (length s)) refl h
   where
-    by : (x : Bool) → leb n (length s) ≡ x → pick x (read (take n s) (drop n s)) short ≡ read b t → Begins b s t ((length b ≡ n) × Bytes b)
+    by : (x : Bool) → leb n (length s) ≡ x → pick x (read (take n s) (drop n s)) short ≡ read b t → BeginsWith b s t ((length b ≡ n) × Bytes b)
     by true q e =
         let x : take n s ≡ b = cc in
         let y : drop n s ≡ t = cc in
@@ -53,7 +53,7 @@ number-bytes w b e k =
     let all : take w b ≡ b = take-all w b (omega arith) in
     (rw all at (write-back w b (omega arith) k), rw all at (num-below w b (omega arith) k))
 
-number-split : (w : ℕ) (s : List ℕ) (v : ℕ) (t : List ℕ) → number w s ≡ read v t → Bytes s → Begins (beBytes w v) s t (v < 256 ^ w)
+number-split : (w : ℕ) (s : List ℕ) (v : ℕ) (t : List ℕ) → number w s ≡ read v t → Bytes s → BeginsWith (beBytes w v) s t (v < 256 ^ w)
 unfolding number
 number-split w s v t h k =
     let x = both-read (part w s) _ v t h in
@@ -76,7 +76,7 @@ words-split (suc n) b e k =
     let r = words-split n (drop 8 b) (length-drop 8 b ∙ omega arith) (λ j. rw getD-drop (k (8 + j))) in
     (rw (write-back 8 b l k, r .0) (take-append-drop 8 b), (num-below 8 b l k, r .1))
 
-counted-split : (s ws t : List ℕ) → counted s ≡ read ws t → Bytes s → Begins (countedBytes ws) s t (Counted ws)
+counted-split : (s ws t : List ℕ) → counted s ≡ read ws t → Bytes s → BeginsWith (countedBytes ws) s t (CountedWords ws)
 unfolding counted countedBytes
 counted-split s ws t h k =
     let x = both-read (number 4 s) _ ws t h in
@@ -106,14 +106,14 @@ five : (a b c d e t : List ℕ) → a ++ (b ++ (c ++ (d ++ (e ++ t)))) ≡ (a ++
 five a b c d e t = simp append-assoc
 
 -- what was read is what was found
-moved : {A : Type 0} (B : A → List ℕ) (G : A → Type 0) (s : List ℕ) (a b : A) (u t : List ℕ) → read a u ≡ read b t → Begins (B a) s u (G a) →
-    Begins (B b) s t (G b)
+moved : {A : Type 0} (B : A → List ℕ) (G : A → Type 0) (s : List ℕ) (a b : A) (u t : List ℕ) → read a u ≡ read b t → BeginsWith (B a) s u (G a) →
+    BeginsWith (B b) s t (G b)
 moved B G s a b u t h x =
     let p : a ≡ b = cc in
     let q : u ≡ t = cc in
     rw (p, q) at x
 
-entry-split : (s : List ℕ) (e : Entry) (t : List ℕ) → entry s ≡ read e t → Bytes s → Begins (entryBytes e) s t (WritableEntry e)
+entry-split : (s : List ℕ) (e : Entry) (t : List ℕ) → entry s ≡ read e t → Bytes s → BeginsWith (entryBytes e) s t (WritableEntry e)
 unfolding entry entryBytes
 entry-split s e t h k =
     let x1 = both-read (number 4 s) _ e t h in
@@ -142,7 +142,7 @@ entry-split s e t h k =
     let c4 = countedBytes (x4 .first) in
     let c5 = countedBytes (x5 .first) in
     let c6 = countedBytes (x6 .first) in
-    let told : Begins (entryBytes f) s (x6 .rest) (WritableEntry f) = record {
+    let told : BeginsWith (entryBytes f) s (x6 .rest) (WritableEntry f) = record {
       is = n1 .is ∙ behind a (n2 .is ∙ behind b (r .is ∙ behind c3 (w .is ∙ behind c4 (kr .is ∙ behind c5 (kw .is))))) ∙ six a b c3 c4 c5 c6 (x6 .rest);
       fine = record { selector = n1 .fine; offset = n2 .fine; reads = r .fine; writes = w .fine; keyed-reads = kr .fine; keyed-writes = kw .fine };
       rest = kw .rest;
@@ -150,7 +150,7 @@ entry-split s e t h k =
     moved entryBytes WritableEntry s f e (x6 .rest) t (x6 .then) told
 
 entries-split : (n : ℕ) (s : List ℕ) (es : List Entry) (t : List ℕ) → entries n s ≡ read es t → Bytes s →
-    Begins (entriesBytes es) s t (WritableEntries es × (length es ≡ n))
+    BeginsWith (entriesBytes es) s t (WritableEntries es × (length es ≡ n))
 unfolding entries entriesBytes
 entries-split zero s es t h k =
     moved entriesBytes (λ (es : List Entry). WritableEntries es × (length es ≡ zero)) s [] es s t h (record { is = refl; fine = (tt, refl); rest = k })
@@ -170,7 +170,7 @@ entries-split (suc n) s es t h k =
 abbrev body : Container → List ℕ
 body c = beBytes 4 (length (c .code)) ++ (c .code ++ (countedBytes (c .consts) ++ (beBytes 4 (length (c .entries)) ++ entriesBytes (c .entries))))
 
-pub body-split : (s : List ℕ) (c : Container) (t : List ℕ) → container s ≡ read c t → Bytes s → Begins (body c) s t (Writable c)
+pub body-split : (s : List ℕ) (c : Container) (t : List ℕ) → container s ≡ read c t → Bytes s → BeginsWith (body c) s t (Writable c)
 unfolding container
 body-split s c t h k =
     let x1 = both-read (number 4 s) _ c t h in
@@ -203,7 +203,7 @@ tag-split s h e k = sym (take-append-drop 4 s) ∙ ap (λ (z : List ℕ). z ++ d
 
 -- bytes after whose tag a container is read begin with its canonical bytes
 pub begins-with : (s : List ℕ) (c : Container) (t : List ℕ) → Bytes s → 4 ≤ length s → num (take 4 s) ≡ tag → container (drop 4 s) ≡ read c t →
-    Begins (canonical c) s t (Writable c)
+    BeginsWith (canonical c) s t (Writable c)
 unfolding canonical
 begins-with s c t k h e r =
     let b = body-split (drop 4 s) c t r (λ j. rw getD-drop (k (4 + j))) in

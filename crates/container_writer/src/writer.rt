@@ -3,10 +3,11 @@ ghost use mathlib.Core.Path.{_≡_};
 ghost use mathlib.Core.Bool.{true};
 ghost use Prim.Native.Nat.{_+_, _≤_};
 ghost use lib.ListN.{length, take, drop};
+ghost use Rattle.words.specs.Choice.{isSome};
 ghost use Rattle.container.specs.Canonical.{wordBytes, countedBytes, entryBytes, entriesBytes, canonical};
-ghost use Rattle.container_writer.specs.Writer.{allShort, slotsIn, beginsEntry, entryIn, entriesIn, listed, toWrite, writtenOf, outputOf};
+ghost use Rattle.container_writer.specs.Writer.{allShort, slotsIn, beginsEntry, entryIn, entriesIn, listed, toWrite, writtenOf, writerOutput};
 ghost use Rattle.words.specs.Laid.{Laid};
-ghost use Rattle.container_writer.specs.WriterParts.{Begins, isSome, orEmpty, containerOf};
+ghost use Rattle.container_writer.specs.WriterParts.{BeginsEntry, orEmpty, containerOf};
 use container::reader::TAG;
 use words::laid::put_bytes;
 use words::laid::put_number;
@@ -114,7 +115,7 @@ fn put_slots(out: &mut [u8], at: usize, list: &[u64], from: usize, n: usize) -> 
 
 // The entry that the list begins with.
 fn put_entry(out: &mut [u8], at: usize, list: &[u64]) -> usize
-    requires { ⌜ Begins (now list) × (at + length (entryBytes (entryIn (now list))) ≤ length (now out)) ⌝ }
+    requires { ⌜ BeginsEntry (now list) × (at + length (entryBytes (entryIn (now list))) ≤ length (now out)) ⌝ }
     ensures { λ r. ⌜ Laid (now (out .entry)) at (entryBytes (entryIn (now (list .entry)))) (now (out .exit)) r ⌝ }
 {
     let reads = list[2] as usize;
@@ -167,7 +168,7 @@ fn put(code: &[u8], consts: &[u64], list: &[u64], out: &mut [u8]) -> usize
 // selector, its offset, four counts and its slots.
 pub fn write(code: &[u8], consts: &[u64], list: &[u64], out: &mut [u8]) -> Written
     ensures answer { λ r. ⌜ r ≡ writtenOf (toWrite (now (code .entry)) (now (consts .entry)) (now (list .entry))) (now (out .entry)) ⌝ }
-    ensures output { λ _. ⌜ now (out .exit) ≡ outputOf (toWrite (now (code .entry)) (now (consts .entry)) (now (list .entry))) (now (out .entry)) ⌝ }
+    ensures output { λ _. ⌜ now (out .exit) ≡ writerOutput (toWrite (now (code .entry)) (now (consts .entry)) (now (list .entry))) (now (out .entry)) ⌝ }
 {
     if code.len() as u64 >= FOUR_BYTES {
         return Written::BadList;

@@ -1,14 +1,18 @@
+-- definitions
 pub mod Log
-pub mod LogLaws
 pub mod ReadBack
 pub mod Appended
-pub mod AppendLaws
-pub mod LogTheorems
 pub mod Targets
-pub mod TargetTheorems
 pub mod Counts
+-- what the code claims
 pub mod Trailers
+-- laws
+pub mod LogLaws
+pub mod AppendLaws
 pub mod TrailerLaws
 pub mod WalkLaws
 pub mod TargetLaws
 pub mod CountLaws
+-- theorems
+pub mod LogTheorems
+pub mod TargetTheorems

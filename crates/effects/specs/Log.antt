@@ -20,6 +20,6 @@ logOf [] = []
 logOf (e ∷ es) = logOf es ++ recordOf e
 
 -- each record's word and data length fit its trailer
-abbrev pub Small : List Effect → Type 0
-Small [] = Unit {0}
-Small (e ∷ es) = (e .word < 18446744073709551616) × (length (e .bytes) < 4294967296) × Small es
+abbrev pub FitTrailers : List Effect → Type 0
+FitTrailers [] = Unit {0}
+FitTrailers (e ∷ es) = (e .word < 18446744073709551616) × (length (e .bytes) < 4294967296) × FitTrailers es

@@ -8,7 +8,7 @@ use lib.Seq.{take-at, drop-at, getD-at, length-take-le}
 use Rattle.words.specs.Bytes.{num, beBytes}
 use Rattle.words.specs.BytesLaws.{length-beBytes}
 use Rattle.words.specs.BytesTheorems.{read-back-all}
-use Rattle.effects.specs.Log.{Effect, recordOf, logOf, Small}
+use Rattle.effects.specs.Log.{Effect, recordOf, logOf, FitTrailers}
 
 pub length-record : (e : Effect) → length (recordOf e) ≡ length (e .bytes) + 13
 unfolding recordOf
@@ -39,7 +39,7 @@ pub record Newest (log : List ℕ) (at : ℕ) (e : Effect) (es : List Effect) : 
 part : (log a x r : List ℕ) (k n : ℕ) → log ≡ a ++ (x ++ r) → length a ≡ k → length x ≡ n → take n (drop k log) ≡ x
 part log a x r k n e la lx = ap (λ (l : List ℕ). take n (drop k l)) e ∙ ap (take n) (drop-at a (x ++ r) k la) ∙ take-at x r n lx
 
-pub newest : (log : List ℕ) (at : ℕ) (e : Effect) (es : List Effect) → at ≤ length log → Small (e ∷ es) → take at log ≡ logOf (e ∷ es) → Newest log at e es
+pub newest : (log : List ℕ) (at : ℕ) (e : Effect) (es : List Effect) → at ≤ length log → FitTrailers (e ∷ es) → take at log ≡ logOf (e ∷ es) → Newest log at e es
 unfolding logOf recordOf
 newest log at e es l s q =
     let a : List ℕ = logOf es in

@@ -1,12 +1,12 @@
 -- A log read back gives its effects, so it determines them; and what an append leaves is the log with one effect more. Assumes nothing.
 use mathlib.Core.Path.{_≡_, refl, sym, ap, _∙_, subst}
 use mathlib.Core.List.{List, [], _∷_, _++_}
-use Prim.Native.Nat.{ℕ, zero, suc, _+_, _-_, _≤_, _<_}
+use Prim.Native.Nat.{ℕ, zero, suc, _+_, _≤_, _<_}
 use native.Mathlib.Omega.{arith}
 use lib.ListN.{length, take, drop, take-append-drop}
 use lib.Seq.{take-all}
-use Rattle.effects.specs.Log.{Effect, recordOf, logOf, Small}
-use Rattle.effects.specs.ReadBack.{sizeOf, startOf, lastOf, readBack, effectsOf}
+use Rattle.effects.specs.Log.{Effect, recordOf, logOf, FitTrailers}
+use Rattle.effects.specs.ReadBack.{sizeOf, recordStart, lastOf, readBack, effectsOf}
 use Rattle.effects.specs.LogLaws.{Newest, newest, length-log}
 use Rattle.effects.specs.Appended.{Grew, Appended}
 use Rattle.effects.specs.declared.log.Grown.{Grown}
@@ -14,20 +14,20 @@ use Rattle.effects.specs.declared.log.Grown.the-variants.{End, NoRoom}
 
 -- the last record of a log is its newest effect's, and begins where the older ones' log ends
 module _ (s : List ℕ) (e : Effect) (es : List Effect) (n : Newest s (length s) e es) where
-  start-is : startOf s ≡ length (logOf es)
-  unfolding startOf sizeOf
+  start-is : recordStart s ≡ length (logOf es)
+  unfolding recordStart sizeOf
   start-is = omega (arith, n .end, n .size)
 
   last-is : lastOf s ≡ e
   unfolding lastOf sizeOf
   last-is = λ i. record { kind = n .kind i; word = n .word i; bytes = ((λ j. take (n .size j) (drop (start-is j) s)) ∙ n .bytes) i }
 
-read-step : (k : ℕ) (s : List ℕ) → 0 < length s → readBack (suc k) s ≡ lastOf s ∷ readBack k (take (startOf s) s)
+read-step : (k : ℕ) (s : List ℕ) → 0 < length s → readBack (suc k) s ≡ lastOf s ∷ readBack k (take (recordStart s) s)
 unfolding readBack
 read-step k [] h = absurd (omega arith)
 read-step k (x ∷ s) h = refl
 
-reads-back : (es : List Effect) (k : ℕ) → Small es → length (logOf es) ≤ k → readBack k (logOf es) ≡ es
+reads-back : (es : List Effect) (k : ℕ) → FitTrailers es → length (logOf es) ≤ k → readBack k (logOf es) ≡ es
 unfolding readBack logOf
 reads-back [] zero sm h = refl
 reads-back [] (suc k) sm h = refl
@@ -36,16 +36,16 @@ reads-back (e ∷ es) (suc k) sm h =
     let s : List ℕ = logOf (e ∷ es) in
     let l : length s ≡ length (logOf es) + length (e .bytes) + 13 = length-log e es in
     let n = newest s (length s) e es (omega arith) sm (take-all (length s) s (omega arith)) in
-    let f : take (startOf s) s ≡ logOf es = ap (λ (j : ℕ). take j s) (start-is s e es n) ∙ n .front in
+    let f : take (recordStart s) s ≡ logOf es = ap (λ (j : ℕ). take j s) (start-is s e es n) ∙ n .front in
     read-step k s (omega arith) ∙ (λ i. last-is s e es n i ∷ readBack k (f i)) ∙ ap (λ (os : List Effect). e ∷ os) (reads-back es k (sm .2) (omega arith))
 
 -- a log read back gives its effects
-pub read-back-log : (es : List Effect) → Small es → effectsOf (logOf es) ≡ es
+pub read-back-log : (es : List Effect) → FitTrailers es → effectsOf (logOf es) ≡ es
 unfolding effectsOf
 read-back-log es sm = reads-back es (length (logOf es)) sm (omega arith)
 
 -- a log determines its effects
-pub log-determines : (es fs : List Effect) → Small es → Small fs → logOf es ≡ logOf fs → es ≡ fs
+pub log-determines : (es fs : List Effect) → FitTrailers es → FitTrailers fs → logOf es ≡ logOf fs → es ≡ fs
 log-determines es fs se sf e = sym (read-back-log es se) ∙ ap effectsOf e ∙ read-back-log fs sf
 
 -- after an append the log is that of one effect more

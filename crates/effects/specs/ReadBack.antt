@@ -10,18 +10,18 @@ unfoldable pub sizeOf : List ℕ → ℕ
 sizeOf s = num (take 4 (drop (length s - 4) s))
 
 -- where the last record begins
-unfoldable pub startOf : List ℕ → ℕ
-startOf s = length s - 13 - sizeOf s
+unfoldable pub recordStart : List ℕ → ℕ
+recordStart s = length s - 13 - sizeOf s
 
 -- the last record's effect
 unfoldable pub lastOf : List ℕ → Effect
-lastOf s = record { kind = getD s (length s - 13) 0; word = num (take 8 (drop (length s - 12) s)); bytes = take (sizeOf s) (drop (startOf s) s) }
+lastOf s = record { kind = getD s (length s - 13) 0; word = num (take 8 (drop (length s - 12) s)); bytes = take (sizeOf s) (drop (recordStart s) s) }
 
 -- at most k effects, from the last record on
 unfoldable pub readBack : ℕ → List ℕ → List Effect
 readBack zero s = []
 readBack (suc k) [] = []
-readBack (suc k) (x ∷ s) = lastOf (x ∷ s) ∷ readBack k (take (startOf (x ∷ s)) (x ∷ s))
+readBack (suc k) (x ∷ s) = lastOf (x ∷ s) ∷ readBack k (take (recordStart (x ∷ s)) (x ∷ s))
 
 -- the effects of a log
 unfoldable pub effectsOf : List ℕ → List Effect

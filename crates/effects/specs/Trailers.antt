@@ -6,7 +6,7 @@ use Prim.Native.Nat.{ℕ, _+_, _≤_, _<_}
 use lib.ListN.{length, take}
 use lib.Dec.{eqb}
 use Rattle.words.specs.Choice.{pick, both, either}
-use Rattle.effects.specs.Log.{Effect, logOf, Small}
+use Rattle.effects.specs.Log.{Effect, logOf, FitTrailers}
 use Rattle.effects.specs.Targets.{mints}
 use Rattle.effects.specs.declared.trailer.Trailer.{Trailer}
 
@@ -18,7 +18,7 @@ trailerOf e es = record { kind = e .kind; word = e .word; length = length (e .by
 pub record EndingAt (log : List ℕ) (at : ℕ) (r : Trailer) : Type 0 where
   pub less : r .from < at
   pub within : r .from + r .length ≤ at
-  pub told : (e : Effect) (es : List Effect) → Small (e ∷ es) → take at log ≡ logOf (e ∷ es) → r ≡ trailerOf e es
+  pub told : (e : Effect) (es : List Effect) → FitTrailers (e ∷ es) → take at log ≡ logOf (e ∷ es) → r ≡ trailerOf e es
 
 -- the record has a target
 unfoldable pub durableOf : Trailer → Bool

@@ -5,27 +5,27 @@ use Prim.Native.Nat.{ℕ, _≤_, _<_}
 use native.Mathlib.Omega.{arith}
 use lib.ListN.{length, take, drop}
 use lib.Seq.{length-take-le}
-use Rattle.effects.specs.Log.{Effect, logOf, Small}
+use Rattle.effects.specs.Log.{Effect, logOf, FitTrailers}
 use Rattle.effects.specs.Trailers.{trailerOf, EndingAt}
 use Rattle.effects.specs.LogLaws.{log-none, newest}
 use Rattle.effects.specs.declared.trailer.Trailer.{Trailer}
 
 -- the older effects, whose answer f gives that of all by g
-pub record Left {A : Type 0} (f : List Effect → A) (g : A → A) (log : List ℕ) (at : ℕ) (es : List Effect) : Type 0 where
+pub record EffectsLeft {A : Type 0} (f : List Effect → A) (g : A → A) (log : List ℕ) (at : ℕ) (es : List Effect) : Type 0 where
   pub older : List Effect
-  pub small : Small older
+  pub small : FitTrailers older
   pub bytes : take at log ≡ logOf older
   pub same : f es ≡ g (f older)
 
 -- whatever effects the log has, those before `at` decide
 pub record Walked {A : Type 0} (f : List Effect → A) (g : A → A) (log : List ℕ) (end at : ℕ) : Type 0 where
-  pub left : (es : List Effect) → Small es → take end log ≡ logOf es → Left f g log at es
+  pub left : (es : List Effect) → FitTrailers es → take end log ≡ logOf es → EffectsLeft f g log at es
 
 module _ {A : Type 0} (f : List Effect → A) (g : A → A) (log : List ℕ) (end : ℕ) where
   pub walk-start : ((x : A) → x ≡ g x) → Walked f g log end end
   walk-start h = record { left = λ es s e. record { older = es; small = s; bytes = e; same = h (f es) } }
 
-  pub walk-end : (at : ℕ) → at ≡ 0 → Walked f g log end at → (es : List Effect) → Small es → take end log ≡ logOf es → g (f []) ≡ f es
+  pub walk-end : (at : ℕ) → at ≡ 0 → Walked f g log end at → (es : List Effect) → FitTrailers es → take end log ≡ logOf es → g (f []) ≡ f es
   walk-end at z w es s e =
       let p = w .left es s e in
       let n : length (logOf (p .older)) ≡ 0 = sym (ap length (p .bytes)) ∙ ap (λ (k : ℕ). length (take k log)) z in
@@ -39,18 +39,18 @@ Tells log t e es = (t ≡ trailerOf e es) × (take (t .length) (drop (t .from) l
 record Last {A : Type 0} (f : List Effect → A) (g : A → A) (log : List ℕ) (t : Trailer) (es : List Effect) : Type 0 where
   head : Effect
   rest : List Effect
-  small : Small rest
+  small : FitTrailers rest
   tells : Tells log t head rest
   front : take (t .from) log ≡ logOf rest
   same : f es ≡ g (f (head ∷ rest))
 
 module _ {A : Type 0} {f : List Effect → A} {g : A → A} {log : List ℕ} {end at : ℕ} (w : Walked f g log end at) (l : at ≤ length log) (h : 0 < at)
     (t : Trailer) (b : EndingAt log at t) where
-  last : (es : List Effect) → Small es → take end log ≡ logOf es → Last f g log t es
+  last : (es : List Effect) → FitTrailers es → take end log ≡ logOf es → Last f g log t es
   unfolding trailerOf logOf
   last es s e = let p = w .left es s e in go (p .older) (p .small) (p .bytes) (p .same)
     where
-      go : (os : List Effect) → Small os → take at log ≡ logOf os → f es ≡ g (f os) → Last f g log t es
+      go : (os : List Effect) → FitTrailers os → take at log ≡ logOf os → f es ≡ g (f os) → Last f g log t es
       go [] sm by sa = absurd (omega (arith, length-take-le at log l, ap length by))
       go (o ∷ os) sm by sa =
           let n = newest log at o os l sm by in
@@ -74,5 +74,5 @@ module _ {A : Type 0} {f : List Effect → A} {g : A → A} {log : List ℕ} {en
 
   -- at a record that decides
   pub walk-stop : (v : A) → ((e : Effect) (es : List Effect) → Tells log t e es → g (f (e ∷ es)) ≡ v) →
-      (es : List Effect) → Small es → take end log ≡ logOf es → v ≡ f es
+      (es : List Effect) → FitTrailers es → take end log ≡ logOf es → v ≡ f es
   walk-stop v k es s e = let n = last es s e in sym (n .same ∙ k (n .head) (n .rest) (n .tells))

@@ -5,7 +5,7 @@ ghost use Prim.Native.Nat.{_≤_};
 ghost use lib.Dec.{eqb};
 ghost use lib.ListN.{length, take};
 ghost use Rattle.words.specs.Choice.{bit, either};
-ghost use Rattle.effects.specs.Log.{Effect, Small, logOf};
+ghost use Rattle.effects.specs.Log.{Effect, FitTrailers, logOf};
 ghost use Rattle.effects.specs.Counts;
 ghost use Rattle.effects.specs.Counts.{countOf};
 use crate::trailer::Trailer;
@@ -26,7 +26,7 @@ fn weight(t: Trailer, all: bool) -> usize
 // How many records of the log's first `end` bytes count.
 fn count(log: &[u8], end: usize, all: bool) -> usize
     requires { ⌜ end ≤ length (now log) ⌝ }
-    ensures { λ r. ⌜ ((es : List Effect) → Small es → take end (now (log .entry)) ≡ logOf es → r ≡ countOf all es) ⌝ }
+    ensures { λ r. ⌜ ((es : List Effect) → FitTrailers es → take end (now (log .entry)) ≡ logOf es → r ≡ countOf all es) ⌝ }
 {
     let mut n = 0;
     let mut at = end;
@@ -41,7 +41,7 @@ fn count(log: &[u8], end: usize, all: bool) -> usize
 // The number of records in the log's first `end` bytes.
 pub fn records(log: &[u8], end: usize) -> usize
     requires { ⌜ end ≤ length (now log) ⌝ }
-    ensures { λ r. ⌜ ((es : List Effect) → Small es → take end (now (log .entry)) ≡ logOf es → r ≡ length es) ⌝ }
+    ensures { λ r. ⌜ ((es : List Effect) → FitTrailers es → take end (now (log .entry)) ≡ logOf es → r ≡ length es) ⌝ }
 {
     count(log, end, true)
 }
@@ -49,7 +49,7 @@ pub fn records(log: &[u8], end: usize) -> usize
 // The number of events in the log's first `end` bytes.
 pub fn events(log: &[u8], end: usize) -> usize
     requires { ⌜ end ≤ length (now log) ⌝ }
-    ensures { λ r. ⌜ ((es : List Effect) → Small es → take end (now (log .entry)) ≡ logOf es → r ≡ Counts.events es) ⌝ }
+    ensures { λ r. ⌜ ((es : List Effect) → FitTrailers es → take end (now (log .entry)) ≡ logOf es → r ≡ Counts.events es) ⌝ }
 {
     count(log, end, false)
 }

@@ -3,7 +3,7 @@ ghost use mathlib.Core.Path.{_≡_};
 ghost use mathlib.Core.List.{List};
 ghost use Prim.Native.Nat.{_≤_};
 ghost use lib.ListN.{length, take};
-ghost use Rattle.effects.specs.Log.{Effect, Small, logOf};
+ghost use Rattle.effects.specs.Log.{Effect, FitTrailers, logOf};
 ghost use Rattle.effects.specs.Targets.{knownIn, anyTarget};
 ghost use Rattle.effects.specs.Trailers.{durableOf, alikeOf};
 use crate::trailer::Trailer;
@@ -46,7 +46,7 @@ fn alike(t: Trailer, kind: u8, size: usize) -> bool
 // Whether the log's first `end` bytes hold a target of this kind and these bytes.
 pub fn known(log: &[u8], end: usize, kind: u8, target: &[u8]) -> bool
     requires { ⌜ end ≤ length (now log) ⌝ }
-    ensures { λ r. ⌜ ((es : List Effect) → Small es → take end (now (log .entry)) ≡ logOf es →
+    ensures { λ r. ⌜ ((es : List Effect) → FitTrailers es → take end (now (log .entry)) ≡ logOf es →
         r ≡ knownIn (record { kind = kind; bytes = now (target .entry) }) es) ⌝ }
 {
     let mut at = end;
@@ -75,7 +75,7 @@ pub fn known(log: &[u8], end: usize, kind: u8, target: &[u8]) -> bool
 // Whether the log's first `end` bytes hold a target.
 pub fn any_target(log: &[u8], end: usize) -> bool
     requires { ⌜ end ≤ length (now log) ⌝ }
-    ensures { λ r. ⌜ ((es : List Effect) → Small es → take end (now (log .entry)) ≡ logOf es → r ≡ anyTarget es) ⌝ }
+    ensures { λ r. ⌜ ((es : List Effect) → FitTrailers es → take end (now (log .entry)) ≡ logOf es → r ≡ anyTarget es) ⌝ }
 {
     let mut at = end;
     while at > 0 {

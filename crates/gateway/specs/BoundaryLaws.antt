@@ -38,7 +38,8 @@ unfolding answeredOf toldOf
 untouched b c ws l h = rw (lt-ltb (length l) (length ws) h)
 
 -- one that is long enough: what the call left, and the words of what it answered
-pub passed : {A : Type 0} → (b c d : A) (ws vs l u : List ℕ) (n : ℕ) → length vs ≤ length l → c ≡ d → ws ≡ vs → answered n u ≡ answeredOf ws l → told n u c ≡ toldOf b d vs l
+pub passed : {A : Type 0} → (b c d : A) (ws vs l u : List ℕ) (n : ℕ) → length vs ≤ length l → c ≡ d → ws ≡ vs → answered n u ≡ answeredOf ws l →
+    told n u c ≡ toldOf b d vs l
 unfolding toldOf
 passed b c d ws vs l u n h e w p =
     let q : answered n u ≡ answeredOf vs l = p ∙ ap (λ (x : List ℕ). answeredOf x l) w in

@@ -28,8 +28,8 @@ gatewayOf x b l = toldOf b (callOf x b .lent) (answerWords (callOf x b .answer))
 
 -- the writer: its output and its answer's words
 unfoldable pub writerOf : Option Container → (out answer : List ℕ) → Told (List ℕ)
-writerOf c out l = toldOf out (writer.outputOf c out) (writtenWords (writer.writtenOf c out)) l
+writerOf c out l = toldOf out (writer.writerOutput c out) (writtenWords (writer.writtenOf c out)) l
 
 -- the change list: its output and its answer's words
 unfoldable pub changesOf : Option (List Row) → (out answer : List ℕ) → Told (List ℕ)
-changesOf rs out l = toldOf out (changes.outputOf rs out) (listWords (changes.answerOf rs out)) l
+changesOf rs out l = toldOf out (changes.listOutput rs out) (listWords (changes.answerOf rs out)) l

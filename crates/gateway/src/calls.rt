@@ -67,13 +67,13 @@ fn answer_call(
 ) -> u32
     ensures { λ r. ⌜ told r (now (answer .exit))
         (lentAs (now (memory .exit)) (now (stack .exit))
-        (tables.bufs (now (changes .exit)) (now (fetched .exit)) (now (reads .exit)) (now (writes .exit)) (now (fresh .exit)))
+        (tables.keyBufs (now (changes .exit)) (now (fetched .exit)) (now (reads .exit)) (now (writes .exit)) (now (fresh .exit)))
         (now (log .exit)) (now (starts .exit)))
         ≡ gatewayOf
         (inputOf call
         (now (container .entry)) (now (store .entry)) (now (loader .entry)) (now (replies .entry)) (now (preload .entry)))
         (lentAs (now (memory .entry)) (now (stack .entry))
-        (tables.bufs (now (changes .entry)) (now (fetched .entry)) (now (reads .entry)) (now (writes .entry)) (now (fresh .entry)))
+        (tables.keyBufs (now (changes .entry)) (now (fetched .entry)) (now (reads .entry)) (now (writes .entry)) (now (fresh .entry)))
         (now (log .entry)) (now (starts .entry)))
         (now (answer .entry)) ⌝ }
 {
@@ -128,13 +128,13 @@ pub extern "C" fn qvm_for_entry(
 ) -> u32
     ensures { λ r. ⌜ told r (now (answer .exit))
         (lentAs (now (memory .exit)) (now (stack .exit))
-        (tables.bufs (now (changes .exit)) (now (fetched .exit)) (now (reads .exit)) (now (writes .exit)) (now (fresh .exit)))
+        (tables.keyBufs (now (changes .exit)) (now (fetched .exit)) (now (reads .exit)) (now (writes .exit)) (now (fresh .exit)))
         (now (log .exit)) (now (starts .exit)))
         ≡ gatewayOf
         (inputOf (entryCall selector limit (hostAs genesis «ml_signed» «slh_signed») (isPresent «has_loader»))
         (now (container .entry)) (now (store .entry)) (now (loader .entry)) (now (replies .entry)) (now (preload .entry)))
         (lentAs (now (memory .entry)) (now (stack .entry))
-        (tables.bufs (now (changes .entry)) (now (fetched .entry)) (now (reads .entry)) (now (writes .entry)) (now (fresh .entry)))
+        (tables.keyBufs (now (changes .entry)) (now (fetched .entry)) (now (reads .entry)) (now (writes .entry)) (now (fresh .entry)))
         (now (log .entry)) (now (starts .entry)))
         (now (answer .entry)) ⌝ }
 {
@@ -189,13 +189,13 @@ pub extern "C" fn qvm_for_genesis(
 ) -> u32
     ensures { λ r. ⌜ told r (now (answer .exit))
         (lentAs (now (memory .exit)) (now (stack .exit))
-        (tables.bufs (now (changes .exit)) (now (fetched .exit)) (now (reads .exit)) (now (writes .exit)) (now (fresh .exit)))
+        (tables.keyBufs (now (changes .exit)) (now (fetched .exit)) (now (reads .exit)) (now (writes .exit)) (now (fresh .exit)))
         (now (log .exit)) (now (starts .exit)))
         ≡ gatewayOf
         (inputOf (genesisCall limit (hostAs genesis «ml_signed» «slh_signed») (isPresent «has_loader»))
         (now (container .entry)) (now (store .entry)) (now (loader .entry)) (now (replies .entry)) (now (preload .entry)))
         (lentAs (now (memory .entry)) (now (stack .entry))
-        (tables.bufs (now (changes .entry)) (now (fetched .entry)) (now (reads .entry)) (now (writes .entry)) (now (fresh .entry)))
+        (tables.keyBufs (now (changes .entry)) (now (fetched .entry)) (now (reads .entry)) (now (writes .entry)) (now (fresh .entry)))
         (now (log .entry)) (now (starts .entry)))
         (now (answer .entry)) ⌝ }
 {

@@ -33,7 +33,7 @@ pub extern "C" fn qvm_change_list(
           changes = now (changes .entry);
           count = count;
           store = now (store .entry);
-          present = isPresent «has_loader»;
+          «has_loader» = isPresent «has_loader»;
           loader = now (loader .entry);
         })) (now (out .entry)) (now (answer .entry)) ⌝ }
 {

@@ -3,9 +3,10 @@ use mathlib.Core.Path.{_≡_}
 use mathlib.Core.List.{List, _++_}
 use Prim.Native.Nat.{ℕ}
 use lib.ListN.{length, take, drop}
+use Rattle.starts.specs.Starts.{startsOf}
 use Rattle.starts.specs.Marks.{Marks}
 use Rattle.keys.specs.Opening.{noRows}
-use Rattle.opening.specs.Opening.{Lent, startsOf}
+use Rattle.opening.specs.Opening.{Lent}
 use Rattle.interp.specs.Call.{wiped}
 use Rattle.machine.specs.RunParts.{run}
 use Rattle.machine.specs.declared.run.Run.{Run}
@@ -24,4 +25,4 @@ pub record Begins (code pre : List ℕ) (b a : Lent) : Type 0 where
   pub writable : a .run .keys .may-write ≡ wiped (b .run .keys .may-write)
   pub paid : a .run .keys .paid ≡ wiped (b .run .keys .paid)
   pub log : a .run .log ≡ wiped (b .run .log)
-  pub map : Marks (wiped (b .map)) (startsOf code) (a .map)
+  pub starts : Marks (wiped (b .starts)) (startsOf code) (a .starts)

@@ -17,7 +17,8 @@ module _ (mem pre u : List ℕ) where
       let z : 0 + length pre ≡ length pre = omega arith in
       e ∙ (λ i. (take-all (length pre) pre (omega arith) ∙ sym (take-all (length mem) pre h)) i ++ drop (z i) mem)
 
-  pub preload-long : length mem < length pre → u ≡ paste mem 0 (take (length mem) pre) (length (take (length mem) pre)) → u ≡ take (length mem) pre ++ drop (length pre) mem
+  pub preload-long : length mem < length pre → u ≡ paste mem 0 (take (length mem) pre) (length (take (length mem) pre)) →
+      u ≡ take (length mem) pre ++ drop (length pre) mem
   preload-long h e =
       let n : length (take (length mem) pre) ≡ length mem = length-take-le (length mem) pre (omega arith) in
       let a : take (length (take (length mem) pre)) (take (length mem) pre) ≡ take (length mem) pre = take-all (length (take (length mem) pre)) (take (length mem) pre) (omega arith) in
@@ -30,5 +31,6 @@ pub length-wiped : (l : List ℕ) → length (wiped l) ≡ length l
 length-wiped l = length-replicate {A = ℕ} (length l) 0
 
 -- the preload over memory that was zeroed
-pub preload-wiped : (mem pre m u : List ℕ) → m ≡ wiped mem → u ≡ take (length m) pre ++ drop (length pre) m → u ≡ take (length mem) pre ++ drop (length pre) (wiped mem)
+pub preload-wiped : (mem pre m u : List ℕ) → m ≡ wiped mem → u ≡ take (length m) pre ++ drop (length pre) m →
+    u ≡ take (length mem) pre ++ drop (length pre) (wiped mem)
 preload-wiped mem pre m u z e = e ∙ (λ i. take ((ap length z ∙ length-wiped mem) i) pre ++ drop (length pre) (z i))

@@ -10,7 +10,7 @@ use Rattle.effects.specs.Log.{logOf}
 use Rattle.state.specs.Regs.{cleared}
 use Rattle.machine.specs.Machine.{Machine}
 use Rattle.machine.specs.Turns.{End, halted, faulted, runOf}
-use Rattle.machine.specs.Lent.{Bufs, bufs}
+use Rattle.machine.specs.Lent.{bufs}
 use Rattle.opening.specs.Opening.{Input, Lent, Opening, refuse, start, openingOf}
 use Rattle.interp.specs.declared.answer.Answer.{Answer}
 
@@ -28,7 +28,15 @@ refusedAs x k = record { end = x; fetches = k; used = 0; fetched = 0; changes = 
 
 -- registers, used, fetches, keys fetched from the loader, keys stored, bytes of the log
 abbrev pub haltedAs : Machine → Answer
-haltedAs m = record { end = refusal 0 0; fetches = m .fetches; used = m .used; fetched = length (m .keys .fetched); changes = length (m .keys .changes); log = length (logOf (m .effects)); regs = m .regs }
+haltedAs m = record {
+  end = refusal 0 0;
+  fetches = m .fetches;
+  used = m .used;
+  fetched = length (m .keys .fetched);
+  changes = length (m .keys .changes);
+  log = length (logOf (m .effects));
+  regs = m .regs;
+}
 
 -- as many zeroes
 abbrev pub wiped : List ℕ → List ℕ
@@ -38,20 +46,24 @@ wiped l = replicate (length l) 0
 abbrev pub filled : List ℕ → List ℕ → List ℕ
 filled bytes l = bytes ++ replicate (length l - length bytes) 0
 
-abbrev pub lentAs : (memory stack : List ℕ) → tables.Bufs → (log map : List ℕ) → Lent
-lentAs mem st ks log map = record { run = bufs mem st ks log; map = map }
+abbrev pub lentAs : (memory stack : List ℕ) → tables.KeyBufs → (log starts : List ℕ) → Lent
+lentAs mem st ks log starts = record { run = bufs mem st ks log; starts = starts }
 
 -- every buffer zero
 abbrev pub wipedAll : Lent → Lent
 wipedAll b =
     let k = b .run .keys in
-    lentAs (wiped (b .run .memory)) (wiped (b .run .stack)) (tables.bufs (wiped (k .changes)) (wiped (k .fetched)) (wiped (k .may-read)) (wiped (k .may-write)) (wiped (k .paid))) (wiped (b .run .log)) (wiped (b .map))
+    lentAs (wiped (b .run .memory)) (wiped (b .run .stack))
+    (tables.keyBufs (wiped (k .changes)) (wiped (k .fetched)) (wiped (k .may-read)) (wiped (k .may-write)) (wiped (k .paid)))
+    (wiped (b .run .log)) (wiped (b .starts))
 
 -- the keys stored with their last values, rising, and the effect log; every other buffer zero
 abbrev pub keptOf : Machine → Lent → Lent
 keptOf m b =
     let k = b .run .keys in
-    lentAs (wiped (b .run .memory)) (wiped (b .run .stack)) (tables.bufs (filled (bytesOf 40 (m .keys .changes)) (k .changes)) (wiped (k .fetched)) (wiped (k .may-read)) (wiped (k .may-write)) (wiped (k .paid))) (filled (logOf (m .effects)) (b .run .log)) (wiped (b .map))
+    lentAs (wiped (b .run .memory)) (wiped (b .run .stack))
+    (tables.keyBufs (filled (bytesOf 40 (m .keys .changes)) (k .changes)) (wiped (k .fetched)) (wiped (k .may-read)) (wiped (k .may-write)) (wiped (k .paid)))
+    (filled (logOf (m .effects)) (b .run .log)) (wiped (b .starts))
 
 abbrev pub ending : End → Lent → Called
 ending (halted m) b = called (haltedAs m) (keptOf m b)

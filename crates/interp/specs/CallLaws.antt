@@ -15,8 +15,8 @@ use Rattle.opening.specs.Opening.{Lent, Opening, sizesFit, openingRead, opening
 use Rattle.opening.specs.Opened.{inputOf, ToldOf, Opens}
 use Rattle.opening.specs.declared.open.Call.{Call}
 use Rattle.opening.specs.declared.open.Opened.{Opened}
-use Rattle.opening.specs.declared.open.Opening as answer
-use Rattle.opening.specs.declared.open.Opening.the-variants.{Done, Refused}
+use Rattle.opening.specs.declared.open.OpenAnswer as answer
+use Rattle.opening.specs.declared.open.OpenAnswer.the-variants.{Done, Refused}
 use Rattle.interp.specs.Call.{called, refusedAs, running, callOf}
 use Rattle.interp.specs.Entered.{Entered}
 use Rattle.interp.specs.declared.answer.Answer.{Answer}
@@ -27,7 +27,7 @@ module _ (c : Call) (s st ld rp pre : List ℕ) (b : Lent) (fit : Bool) (q : fit
   unfolding callOf openingOf running
   call-bad k r e = let w : sizesFit b ≡ false = sym q ∙ k in rw (w, e)
 
-  module _ (k : fit ≡ true) (o : answer.Opening) (t : Opens c s st ld rp o) where
+  module _ (k : fit ≡ true) (o : answer.OpenAnswer) (t : Opens c s st ld rp o) where
     opened : openingOf (inputOf c s st ld rp pre) b ≡ openingRead (inputOf c s st ld rp pre) b (readOf s)
     unfolding openingOf
     opened = let w : sizesFit b ≡ true = sym q ∙ k in rw w
@@ -44,8 +44,8 @@ module _ (c : Call) (s st ld rp pre : List ℕ) (b : Lent) (fit : Bool) (q : fit
     call-entered x p =
         let u : ToldOf (inputOf c s st ld rp pre) b (Done x) = rw p at (t pre b) in
         let w : sizesFit b ≡ true = sym q ∙ k in
-        let m = both-left (eqb (length (b .run .memory)) 65536) (both (eqb (length (b .run .stack)) 1024) (eqb (length (b .map)) 8192)) w in
-        let v = both-right (eqb (length (b .run .memory)) 65536) (both (eqb (length (b .run .stack)) 1024) (eqb (length (b .map)) 8192)) w in
+        let m = both-left (eqb (length (b .run .memory)) 65536) (both (eqb (length (b .run .stack)) 1024) (eqb (length (b .starts)) 8192)) w in
+        let v = both-right (eqb (length (b .run .memory)) 65536) (both (eqb (length (b .run .stack)) 1024) (eqb (length (b .starts)) 8192)) w in
         record {
           input = inputOf c s st ld rp pre;
           found = u;
@@ -57,11 +57,12 @@ module _ (c : Call) (s st ld rp pre : List ℕ) (b : Lent) (fit : Bool) (q : fit
           limit-is = refl;
           host-is = refl;
           memory-size = eqb-true (length (b .run .memory)) 65536 m;
-          stack-size = eqb-true (length (b .run .stack)) 1024 (both-left (eqb (length (b .run .stack)) 1024) (eqb (length (b .map)) 8192) v);
-          map-size = eqb-true (length (b .map)) 8192 (both-right (eqb (length (b .run .stack)) 1024) (eqb (length (b .map)) 8192) v);
+          stack-size = eqb-true (length (b .run .stack)) 1024 (both-left (eqb (length (b .run .stack)) 1024) (eqb (length (b .starts)) 8192) v);
+          starts-size = eqb-true (length (b .starts)) 8192 (both-right (eqb (length (b .run .stack)) 1024) (eqb (length (b .starts)) 8192) v);
         }
 
-    pub call-runs : (x : Opened) (p : o ≡ Done x) (r : Answer) (a : Lent) → ((y : Entered x (c .limit) (c .host) s st ld rp pre b) → called r a ≡ running (openingRead (y .input) b (readOf (y .input .container))) b)
+    pub call-runs : (x : Opened) (p : o ≡ Done x) (r : Answer) (a : Lent) →
+        ((y : Entered x (c .limit) (c .host) s st ld rp pre b) → called r a ≡ running (openingRead (y .input) b (readOf (y .input .container))) b)
         → called r a ≡ callOf (inputOf c s st ld rp pre) b
     unfolding callOf call-entered
     call-runs x p r a e = e (call-entered x p) ∙ ap (λ (y : Opening). running y b) (sym opened)

@@ -6,7 +6,7 @@ use Prim.Native.Nat.{ℕ}
 use lib.ListN.{replicate}
 use Rattle.words.specs.Bytes.{num, numFrom, wordsOf}
 use Rattle.words.specs.Lists.{member}
-use Rattle.isa.specs.Table.{rowOf, find, opAt}
+use Rattle.isa.specs.Table.{rowOf, opWith, opAt}
 use Rattle.isa.specs.Forms.{formOf, instrOf}
 use Rattle.isa.specs.Codec.{refusalIn, unless, operandsOf, afterOpcode, decodeList, decodeAt}
 use Rattle.tables.specs.Rows.{rows}
@@ -15,12 +15,9 @@ use Rattle.tables.specs.Answers.{checkedNumber}
 use Rattle.replies.specs.Answers.{repliesNumber}
 use Rattle.replies.specs.Replies.{goodReplies, repliesOf}
 use Rattle.container.specs.Reader.{part, number, counted, entry, entries, container, whole, readOf}
-use Rattle.isa.specs.Kinds.{kindOf}
-use Rattle.isa.specs.Flow.{flowOf}
-use Rattle.isa.specs.Refers.{aimOf, refersBy, refersTo}
-use Rattle.starts.specs.Starts.{ended, met, unlessBad, walkBy, walk, walkOf}
+use Rattle.starts.specs.Starts.{startsBy, startsFrom, startsOf}
 use Rattle.container.specs.Container.{slotCount}
-use Rattle.container.specs.Cases.{exampleBytes}
+use Rattle.container.specs.CaseTheorems.{exampleBytes}
 use Rattle.keys.specs.Lent as tables
 use Rattle.effects.specs.Log.{logOf}
 use Rattle.machine.specs.Actions.{actionOf}
@@ -35,7 +32,7 @@ use Rattle.machine.specs.declared.host.Host.{Host}
 
 -- buffers of the right sizes, tables and log without room
 abbrev lent : Lent
-lent = lentAs (replicate 65536 0) (replicate 1024 0) (tables.bufs [] [] [] [] []) [] (replicate 8192 0)
+lent = lentAs (replicate 65536 0) (replicate 1024 0) (tables.keyBufs [] [] [] [] []) [] (replicate 8192 0)
 
 abbrev host : Host
 host = record { genesis = 0; «ml_signed» = 0; «slh_signed» = 0 }
@@ -55,7 +52,7 @@ pub record Says (a : Answer) (number fetches used : ℕ) : Type 0 where
   pub used-is : a .used ≡ used
 
 pub run-cases : Says (answerTo exampleBytes 13) 0 1 13 × Says (answerTo exampleBytes 12) 1 0 0 × Says (answerTo emptyBytes 4) 14 0 0
-unfolding num numFrom wordsOf member rowOf find opAt formOf instrOf refusalIn unless operandsOf afterOpcode decodeList decodeAt rows risingb checkedOf checkedNumber repliesNumber goodReplies repliesOf part number counted entry entries container whole readOf kindOf flowOf aimOf refersBy refersTo ended met unlessBad walkBy walk walkOf slotCount logOf actionOf repliesIn repliesLeft play actOf ruleOf stepOf fetchOf turnOf endOf runOf matching envOf machineFor openingAt openingOne openingIn openingRead openingOf running callOf
+unfolding num numFrom wordsOf member rowOf opWith opAt formOf instrOf refusalIn unless operandsOf afterOpcode decodeList decodeAt rows risingb checkedOf checkedNumber repliesNumber goodReplies repliesOf part number counted entry entries container whole readOf startsBy startsFrom startsOf slotCount logOf actionOf repliesIn repliesLeft play actOf ruleOf stepOf fetchOf turnOf endOf runOf matching envOf machineFor openingAt openingOne openingIn openingRead openingOf running callOf
 run-cases = (
   record { number-is = refl; fetches-is = refl; used-is = refl },
   record { number-is = refl; fetches-is = refl; used-is = refl },

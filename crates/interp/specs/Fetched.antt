@@ -34,14 +34,17 @@ abbrev pub StepsFrom : Env → List ℕ → ℕ → RegFile → Bufs → (fetche
 StepsFrom e s d f b k x i q = (x ≡ stepOf e i (machineOf s q f b)) × Sound e s (d + priceOf (formOf i .op)) q b × (q .fetches ≡ k)
 
 -- a step with the decoded instruction, or the fault that the turn comes to
-abbrev pub Told : Decoded → Env → List ℕ → ℕ → RegFile → Bufs → (fetches : ℕ) → Step → Fetched → Type 0
-Told i e s d f b k x (Done q) = StepsFrom e s d f b k x (instructionIn i) q
-Told i e s d f b k x (Refused w) = (x ≡ fault w) × (0 < w .number)
+abbrev pub FetchTold : Decoded → Env → List ℕ → ℕ → RegFile → Bufs → (fetches : ℕ) → Step → Fetched → Type 0
+FetchTold i e s d f b k x (Done q) = StepsFrom e s d f b k x (instructionIn i) q
+FetchTold i e s d f b k x (Refused w) = (x ≡ fault w) × (0 < w .number)
 
 -- the rest of a fetch, from a run that counts it
 abbrev pub Onward : Decoded → Run → Fetched → Type 0
-Onward i r t = (e : Env) (s : List ℕ) (d : ℕ) (f : RegFile) (b : Bufs) → Sound e s d r b → Told i e s d f b (r .fetches) (fetchOf e i (machineOf s r f b)) t
+Onward i r t =
+    (e : Env) (s : List ℕ) (d : ℕ) (f : RegFile) (b : Bufs) → Sound e s d r b → FetchTold i e s d f b (r .fetches) (fetchOf e i (machineOf s r f b)) t
 
 -- d more than the fetches is used before, and the instruction's price more than d afterwards
 abbrev pub Fetches : Decoded → Run → Fetched → Type 0
-Fetches i r t = (e : Env) (s : List ℕ) (d : ℕ) (f : RegFile) (b : Bufs) → i ≡ decodeAt (e .code) (r .pc) → Sound e s (suc d) r b → Told i e s d f b (suc (r .fetches)) (turnOf e (machineOf s r f b)) t
+Fetches i r t =
+    (e : Env) (s : List ℕ) (d : ℕ) (f : RegFile) (b : Bufs) → i ≡ decodeAt (e .code) (r .pc) → Sound e s (suc d) r b →
+    FetchTold i e s d f b (suc (r .fetches)) (turnOf e (machineOf s r f b)) t

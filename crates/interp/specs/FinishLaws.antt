@@ -21,7 +21,7 @@ use Rattle.machine.specs.Sound.{Logged, machineOf}
 use Rattle.opening.specs.Opening.{Lent}
 use Rattle.interp.specs.Call.{called, refusedAs, haltedAs, wiped, filled, lentAs, wipedAll, keptOf}
 use Rattle.interp.specs.Runs.{HaltsIn}
-use Rattle.interp.specs.Finished.{answerOf, Finishes}
+use Rattle.interp.specs.Finished.{haltAnswer, Finishes}
 use Rattle.interp.specs.declared.answer.Answer.{Answer}
 use Rattle.interp.specs.declared.exec.Ended.{Ended}
 
@@ -45,7 +45,7 @@ log-filled n log h =
 abbrev pub workWiped : Lent → Lent
 workWiped b =
     let k = b .run .keys in
-    lentAs (wiped (b .run .memory)) (wiped (b .run .stack)) (tables.bufs (k .changes) (wiped (k .fetched)) (wiped (k .may-read)) (wiped (k .may-write)) (wiped (k .paid))) (b .run .log) (wiped (b .map))
+    lentAs (wiped (b .run .memory)) (wiped (b .run .stack)) (tables.keyBufs (k .changes) (wiped (k .fetched)) (wiped (k .may-read)) (wiped (k .may-write)) (wiped (k .paid))) (b .run .log) (wiped (b .starts))
 
 module _ (x : Ended) (b a : Lent) (r : Answer) where
   pub finish-faults : (x .end .number ≡ 0 → ⊥) → r ≡ refusedAs (x .end) (x .fetches) → a ≡ wipedAll b → Finishes x b r a
@@ -54,7 +54,7 @@ module _ (x : Ended) (b a : Lent) (r : Answer) where
 
   -- the machine of a halt, taken from its state
   module _ (e : Env) (s : List ℕ) (m : Machine) (t : HaltsIn e s x (b .run) m) where
-    answer-is : answerOf x ≡ haltedAs m
+    answer-is : haltAnswer x ≡ haltedAs m
     unfolding machineOf
     answer-is =
         let c = x .run .counts in
@@ -75,9 +75,9 @@ module _ (x : Ended) (b a : Lent) (r : Answer) where
     kept-is all =
         let k = b .run .keys in
         rw (← t .is)
-        (λ i. lentAs (wiped (b .run .memory)) (wiped (b .run .stack)) (tables.bufs (sym (table-filled (x .run .counts .changes) (k .changes) all (t .sound .tables .changes)) i) (wiped (k .fetched)) (wiped (k .may-read)) (wiped (k .may-write)) (wiped (k .paid)))
-        (sym (log-filled (x .run .log) (b .run .log) (t .sound .logged)) i) (wiped (b .map)))
+        (λ i. lentAs (wiped (b .run .memory)) (wiped (b .run .stack)) (tables.keyBufs (sym (table-filled (x .run .counts .changes) (k .changes) all (t .sound .tables .changes)) i) (wiped (k .fetched)) (wiped (k .may-read)) (wiped (k .may-write)) (wiped (k .paid)))
+        (sym (log-filled (x .run .log) (b .run .log) (t .sound .logged)) i) (wiped (b .starts)))
 
-  pub finish-halts : x .end .number ≡ 0 → Bytes (b .run .keys .changes) → r ≡ answerOf x → a ≡ workWiped b → Finishes x b r a
+  pub finish-halts : x .end .number ≡ 0 → Bytes (b .run .keys .changes) → r ≡ haltAnswer x → a ≡ workWiped b → Finishes x b r a
   finish-halts h all q z e s (halted m) t = λ i. called ((q ∙ answer-is e s m t) i) ((z ∙ kept-is e s m t all) i)
   finish-halts h all q z e s (faulted w f) t = absurd (omega (arith, h, ap (λ (y : Refusal). y .number) (t .0), t .1))

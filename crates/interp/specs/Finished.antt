@@ -12,8 +12,8 @@ use Prim.Native.Nat.{ℕ}
 use Rattle.words.specs.Refusals.{refusal}
 
 -- the answer of a halt, from the state that it ended in
-abbrev pub answerOf : Ended → Answer
-answerOf x = record {
+abbrev pub haltAnswer : Ended → Answer
+haltAnswer x = record {
   end = refusal 0 0;
   fetches = x .fetches;
   used = x .run .meter .used;

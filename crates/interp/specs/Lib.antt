@@ -8,7 +8,6 @@ pub mod Runs
 pub mod Wiping
 pub mod Begins
 pub mod Finished
-pub mod Launched
 pub mod Entered
 -- laws
 pub mod BufferLaws
@@ -17,7 +16,6 @@ pub mod OperateLaws
 pub mod StepLaws
 pub mod RunLaws
 pub mod FinishLaws
-pub mod LaunchLaws
 pub mod EnterLaws
 pub mod CallLaws
 -- theorems

@@ -28,7 +28,7 @@ use Rattle.machine.specs.Does.{puts, Turned}
 use Rattle.machine.specs.declared.run.Run.{Run}
 use Rattle.machine.specs.declared.turn.Turn.{Turn}
 use Rattle.interp.specs.Fetched.{instructionIn, StepsFrom, Fetches}
-use Rattle.interp.specs.Ties.{Parts, Ready, Steps}
+use Rattle.interp.specs.Ties.{GivenParts, Ready, Steps}
 use Rattle.interp.specs.Runs.{Begun, Starts, EndsAs, Runs}
 use Rattle.interp.specs.declared.fetch.Fetched.the-variants.{Done, Refused}
 
@@ -44,16 +44,16 @@ pub record Taken (code : List ℕ) (r : Run) (i : Instr) (q : Run) : Type 0 wher
   pub is-in : i ≡ instructionIn out
 
 -- between turns: a sound state, sixteen registers, and the rest of the run is the whole run's
-pub record Going (e : Env) (p : Parts) (r₀ : Run) (b₀ : Bufs) (r : Run) (f : RegFile) (b : Bufs) : Type 0 where
+pub record Going (e : Env) (p : GivenParts) (r₀ : Run) (b₀ : Bufs) (r : Run) (f : RegFile) (b : Bufs) : Type 0 where
   pub sound : Sound e (p .replies) (r₀ .meter .used) r b
   pub regs : length (f .r) ≡ 16
   pub same : runOf (turnsOf e r₀) e (machineOf (p .replies) r₀ cleared b₀) ≡ runOf (turnsOf e r₀ - r .fetches) e (machineOf (p .replies) r f b)
 
-pub record Looping (p : Parts) (r₀ : Run) (b₀ : Bufs) (r : Run) (f : RegFile) (b : Bufs) : Type 0 where
+pub record Looping (p : GivenParts) (r₀ : Run) (b₀ : Bufs) (r : Run) (f : RegFile) (b : Bufs) : Type 0 where
   pub going : (e : Env) → Begun e p r₀ b₀ → Going e p r₀ b₀ r f b
 
-pub loop-begins : (p : Parts) (r : Run) (b : Bufs) (f : RegFile) → f ≡ cleared → Looping p r b r f b
-loop-begins p r b f c = rw c (record {
+pub loop-begins : {p : GivenParts} {r : Run} {b : Bufs} {f : RegFile} → f ≡ cleared → Looping p r b r f b
+loop-begins {p} {r} {b} c = rw c (record {
   going = λ e g.
       let z : turnsOf e r - r .fetches ≡ turnsOf e r = omega (arith, g .none) in
       record { sound = g .sound; regs = length-replicate {A = ℕ} 16 0; same = ap (λ (k : ℕ). runOf k e (machineOf (p .replies) r cleared b)) (sym z) };
@@ -63,7 +63,18 @@ loop-begins p r b f c = rw c (record {
 lower : (e : Env) (s : List ℕ) (d d' : ℕ) (r : Run) (b : Bufs) → Sound e s d r b → d' ≤ d → Sound e s d' r b
 lower e s d d' r b so h = fetches-sound so (r .fetches) d' (omega (arith, so .metered .above))
 
-module _ (p : Parts) (r₀ : Run) (b₀ : Bufs) (r : Run) (f : RegFile) (b : Bufs) (x : Looping p r₀ b₀ r f b) where
+-- the buffers stay as long as they were
+pub record Sizes (a b : Bufs) : Type 0 where
+  pub memory : length (a .memory) ≡ length (b .memory)
+  pub stack : length (a .stack) ≡ length (b .stack)
+  pub changes : length (a .keys .changes) ≡ length (b .keys .changes)
+  pub fetched : length (a .keys .fetched) ≡ length (b .keys .fetched)
+  pub readable : length (a .keys .may-read) ≡ length (b .keys .may-read)
+  pub writable : length (a .keys .may-write) ≡ length (b .keys .may-write)
+  pub paid : length (a .keys .paid) ≡ length (b .keys .paid)
+  pub log : length (a .log) ≡ length (b .log)
+
+module _ {p : GivenParts} {r₀ : Run} {b₀ : Bufs} {r : Run} {f : RegFile} {b : Bufs} (x : Looping p r₀ b₀ r f b) where
   -- there is a turn left
   turns-left : (e : Env) (g : Begun e p r₀ b₀) → (r .fetches < turnsOf e r₀) × (1 ≤ r₀ .meter .used)
   turns-left e g =
@@ -72,6 +83,22 @@ module _ (p : Parts) (r₀ : Run) (b₀ : Bufs) (r : Run) (f : RegFile) (b : Buf
 
   pub fetch-fits : Starts p r₀ b₀ → r .fetches < r .meter .used
   fetch-fits s = let m = x .going (s .env) (s .begun) .sound .metered in omega (arith, m .above, s .begun .sound .metered .some)
+
+  pub loop-sizes : Starts p r₀ b₀ → Sizes b b₀
+  loop-sizes s =
+      let z = x .going (s .env) (s .begun) .sound .sized in
+      let z₀ = s .begun .sound .sized in
+      let q : roomsOf (b .keys) ≡ roomsOf (b₀ .keys) = sym (z .rooms) ∙ z₀ .rooms in
+      record {
+        memory = z .memory ∙ sym (z₀ .memory);
+        stack = z .stack ∙ sym (z₀ .stack);
+        changes = ap (λ (y : Rooms). y .changes) q;
+        fetched = ap (λ (y : Rooms). y .fetched) q;
+        readable = ap (λ (y : Rooms). y .may-read) q;
+        writable = ap (λ (y : Rooms). y .may-write) q;
+        paid = ap (λ (y : Rooms). y .paid) q;
+        log = sym (z .log) ∙ z₀ .log;
+      }
 
   -- the run is what its next turn makes of it
   one-turn : (e : Env) (g : Begun e p r₀ b₀) (t : Step) → turnOf e (machineOf (p .replies) r f b) ≡ t
@@ -97,16 +124,16 @@ module _ (p : Parts) (r₀ : Run) (b₀ : Bufs) (r : Run) (f : RegFile) (b : Buf
   decoded-in : (o : Decoded) → o ≡ decodeAt (p .code) (r .pc) → (e : Env) → Begun e p r₀ b₀ → o ≡ decodeAt (e .code) (r .pc)
   decoded-in o c e g = c ∙ ap (λ (l : List ℕ). decodeAt l (r .pc)) (sym (g .suits .code))
 
-  pub loop-refused : (o : Decoded) → o ≡ decodeAt (p .code) (r .pc) → (w : Refusal) (k : ℕ) → Fetches o r (Refused w) → k ≡ r .fetches + 1
+  pub loop-refused : {o : Decoded} → o ≡ decodeAt (p .code) (r .pc) → {w : Refusal} {k : ℕ} → Fetches o r (Refused w) → k ≡ r .fetches + 1
       → Runs p r₀ b₀ (record { end = w; fetches = k; run = r; file = f }) b
   unfolding endOf
-  loop-refused o read w k told c e g =
+  loop-refused {o} read {w} {k} told c e g =
       let (q, l) = told e (p .replies) d f b (decoded-in o read e g) (before e g) in
       let z : k ≡ suc (r .fetches) = omega (arith, c) in
       rw (one-turn e g (fault w) q) (refl, l, z)
 
   -- an instruction was fetched
-  module _ (i : Instr) (q : Run) (taken : Taken (p .code) r i q) where
+  module _ {i : Instr} {q : Run} (taken : Taken (p .code) r i q) where
     at : (e : Env) → Begun e p r₀ b₀ → StepsFrom e (p .replies) d f b (suc (r .fetches)) (turnOf e (machineOf (p .replies) r f b)) i q
     at e g = rw (taken .is-in) (taken .fetched e (p .replies) d f b (decoded-in (taken .out) (taken .read) e g) (before e g))
 
@@ -114,7 +141,7 @@ module _ (p : Parts) (r₀ : Run) (b₀ : Bufs) (r : Run) (f : RegFile) (b : Buf
     step-ready s = let y = at (s .env) (s .begun) in record { env = s .env; above = d + priceOf (formOf i .op); suits = s .begun .suits; sound = y .1 }
 
     -- and stepped with
-    module _ (t : Turn) (a : Bufs) (st : Steps p i q (f .r) b a t) where
+    module _ {t : Turn} {a : Bufs} (st : Steps p i q (f .r) b a t) where
       abbrev Came : Env → Step → Type 0
       Came e y = Turned e (p .replies) (d + priceOf (formOf i .op)) f y t a
 
@@ -132,9 +159,9 @@ module _ (p : Parts) (r₀ : Run) (b₀ : Bufs) (r : Run) (f : RegFile) (b : Buf
           go (halt m) z c = absurd (h (c .0))
           go (fault w) z c = rw (one-turn e g (fault w) z) (sym (c .0), rw (c .0) (c .1), at e g .2)
 
-      pub loop-halts : t .fault ≡ 0 → t .halted ≡ true → (w : RegFile) → w ≡ puts (t .put) f → Runs p r₀ b₀ (record { end = refusal 0 0; fetches = t .run .fetches; run = t .run; file = w }) a
+      pub loop-halts : t .fault ≡ 0 → t .halted ≡ true → {w : RegFile} → w ≡ puts (t .put) f → Runs p r₀ b₀ (record { end = refusal 0 0; fetches = t .run .fetches; run = t .run; file = w }) a
       unfolding machineOf endOf
-      loop-halts h k w u e g = go (stepOf e i (machineOf (p .replies) q f b)) (at e g .0) (came e g)
+      loop-halts h k {w} u e g = go (stepOf e i (machineOf (p .replies) q f b)) (at e g .0) (came e g)
         where
           go : (z : Step) → turnOf e (machineOf (p .replies) r f b) ≡ z → Came e z
               → EndsAs e (p .replies) (runOf (turnsOf e r₀) e (machineOf (p .replies) r₀ cleared b₀)) (record { end = refusal 0 0; fetches = t .run .fetches; run = t .run; file = w }) a
@@ -161,9 +188,11 @@ module _ (p : Parts) (r₀ : Run) (b₀ : Bufs) (r : Run) (f : RegFile) (b : Buf
 
       went : t .fault ≡ 0 → t .halted ≡ false → (e : Env) → Begun e p r₀ b₀ → Went e
       unfolding machineOf stepOf
-      went h k e g = go (stepOf e i (machineOf (p .replies) q f b)) refl (at e g .0) (came e g) (keeps (e .limit) (q .meter .used) (q .fetches) (ruleOf e i (machineOf (p .replies) q f b)))
+      went h k e g =
+          go (stepOf e i (machineOf (p .replies) q f b)) refl (at e g .0) (came e g) (keeps (e .limit) (q .meter .used) (q .fetches) (ruleOf e i (machineOf (p .replies) q f b)))
         where
-          go : (z : Step) → stepOf e i (machineOf (p .replies) q f b) ≡ z → turnOf e (machineOf (p .replies) r f b) ≡ z → Came e z → Keeps (e .limit) (q .meter .used) (q .fetches) (ruleOf e i (machineOf (p .replies) q f b)) z → Went e
+          go : (z : Step) → stepOf e i (machineOf (p .replies) q f b) ≡ z → turnOf e (machineOf (p .replies) r f b) ≡ z → Came e z →
+              Keeps (e .limit) (q .meter .used) (q .fetches) (ruleOf e i (machineOf (p .replies) q f b)) z → Went e
           go (next m) y z c n =
               let l = c .2 in
               record {
@@ -177,9 +206,9 @@ module _ (p : Parts) (r₀ : Run) (b₀ : Bufs) (r : Run) (f : RegFile) (b : Buf
           go (halt m) y z c n = let o = c .1 in absurd (let w : _≡_ {A = ℕ} 0 1 = cc in omega arith)
           go (fault o) y z c n = absurd (omega (arith, c .1, h))
 
-      pub loop-goes : t .fault ≡ 0 → t .halted ≡ false → (w : RegFile) → w ≡ puts (t .put) f → Looping p r₀ b₀ (t .run) w a
+      pub loop-goes : t .fault ≡ 0 → t .halted ≡ false → {w : RegFile} → w ≡ puts (t .put) f → Looping p r₀ b₀ (t .run) w a
       unfolding d endOf
-      loop-goes h k w u = rw u (record {
+      loop-goes h k u = rw u (record {
         going = λ e g.
             let o = went h k e g in
             let (_, some) = turns-left e g in
@@ -190,36 +219,10 @@ module _ (p : Parts) (r₀ : Run) (b₀ : Bufs) (r : Run) (f : RegFile) (b : Buf
             };
       })
 
-      pub loop-shrinks : Starts p r₀ b₀ → t .fault ≡ 0 → t .halted ≡ false → suc (r₀ .meter .limit - r₀ .meter .used) - t .run .fetches < suc (r₀ .meter .limit - r₀ .meter .used) - r .fetches
+      pub loop-shrinks : Starts p r₀ b₀ → t .fault ≡ 0 → t .halted ≡ false →
+          suc (r₀ .meter .limit - r₀ .meter .used) - t .run .fetches < suc (r₀ .meter .limit - r₀ .meter .used) - r .fetches
       loop-shrinks s h k =
           let o = went h k (s .env) (s .begun) in
           let (l, _) = turns-left (s .env) (s .begun) in
           let e = s .begun .sound .metered .limit in
           omega (arith, o .counts, l, e)
-
--- the buffers stay as long as they were
-pub record Sizes (a b : Bufs) : Type 0 where
-  pub memory : length (a .memory) ≡ length (b .memory)
-  pub stack : length (a .stack) ≡ length (b .stack)
-  pub changes : length (a .keys .changes) ≡ length (b .keys .changes)
-  pub fetched : length (a .keys .fetched) ≡ length (b .keys .fetched)
-  pub readable : length (a .keys .may-read) ≡ length (b .keys .may-read)
-  pub writable : length (a .keys .may-write) ≡ length (b .keys .may-write)
-  pub paid : length (a .keys .paid) ≡ length (b .keys .paid)
-  pub log : length (a .log) ≡ length (b .log)
-
-pub loop-sizes : (p : Parts) (r₀ : Run) (b₀ : Bufs) (r : Run) (f : RegFile) (b : Bufs) → Looping p r₀ b₀ r f b → Starts p r₀ b₀ → Sizes b b₀
-loop-sizes p r₀ b₀ r f b x s =
-    let z = x .going (s .env) (s .begun) .sound .sized in
-    let z₀ = s .begun .sound .sized in
-    let q : roomsOf (b .keys) ≡ roomsOf (b₀ .keys) = sym (z .rooms) ∙ z₀ .rooms in
-    record {
-      memory = z .memory ∙ sym (z₀ .memory);
-      stack = z .stack ∙ sym (z₀ .stack);
-      changes = ap (λ (y : Rooms). y .changes) q;
-      fetched = ap (λ (y : Rooms). y .fetched) q;
-      readable = ap (λ (y : Rooms). y .may-read) q;
-      writable = ap (λ (y : Rooms). y .may-write) q;
-      paid = ap (λ (y : Rooms). y .paid) q;
-      log = sym (z .log) ∙ z₀ .log;
-    }

@@ -22,7 +22,7 @@ use Rattle.machine.specs.declared.run.Run.{Run}
 use Rattle.machine.specs.declared.turn.Turn.{Turn}
 
 -- code, constants, slots, store, loader, replies and the map of starts; the rows of the tables; the host's numbers
-pub record Parts : Type 0 where
+pub record GivenParts : Type 0 where
   pub code : List ℕ
   pub consts : List ℕ
   pub reads : List ℕ
@@ -32,31 +32,44 @@ pub record Parts : Type 0 where
   pub store : List ℕ
   pub loader : List ℕ
   pub replies : List ℕ
-  pub map : List ℕ
+  pub starts : List ℕ
   pub lent : TableRows
   pub host : Host
 
-abbrev pub parts : (code consts reads writes keyed-reads keyed-writes store loader replies map : List ℕ) → TableRows → Host → Parts
-parts co cs r w kr kw st ld rp map l h = record { code = co; consts = cs; reads = r; writes = w; keyed-reads = kr; keyed-writes = kw; store = st; loader = ld; replies = rp; map = map; lent = l; host = h }
+abbrev pub parts : (code consts reads writes keyed-reads keyed-writes store loader replies starts : List ℕ) → TableRows → Host → GivenParts
+parts co cs r w kr kw st ld rp starts l h = record {
+  code = co;
+  consts = cs;
+  reads = r;
+  writes = w;
+  keyed-reads = kr;
+  keyed-writes = kw;
+  store = st;
+  loader = ld;
+  replies = rp;
+  starts = starts;
+  lent = l;
+  host = h;
+}
 
 -- these parts are this environment's
-pub record Suits (e : Env) (p : Parts) : Type 0 where
+pub record Suits (e : Env) (p : GivenParts) : Type 0 where
   pub code : e .code ≡ p .code
   pub consts : e .consts ≡ wordsOf (length (p .consts) / 8) (p .consts)
-  pub size : length (p .map) ≡ 8192
-  pub starts : Holds (p .map) (e .starts)
-  pub keys : e .keys ≡ tables.envOf (p .lent) (given (p .reads) (p .writes) (p .keyed-reads) (p .keyed-writes) (p .store) (p .loader))
+  pub size : length (p .starts) ≡ 8192
+  pub starts : Holds (p .starts) (e .starts)
+  pub keys : e .keys ≡ tables.keyEnvOf (p .lent) (given (p .reads) (p .writes) (p .keyed-reads) (p .keyed-writes) (p .store) (p .loader))
   pub store : Table 40 (p .lent .store) (p .store)
-  pub loader : Loader (p .lent .present) (p .lent .loader) (p .loader)
+  pub loader : Loader (p .lent .«has_loader») (p .lent .loader) (p .loader)
   pub host : e .host ≡ p .host
 
 -- a state that is sound in some environment of these parts
-pub record Ready (p : Parts) (r : Run) (b : Bufs) : Type 0 where
+pub record Ready (p : GivenParts) (r : Run) (b : Bufs) : Type 0 where
   pub env : Env
   pub above : ℕ
   pub suits : Suits env p
   pub sound : Sound env (p .replies) above r b
 
 -- a step from registers and bytes b to bytes a: in every environment of the parts it is the rule's
-abbrev pub Steps : Parts → Instr → Run → List ℕ → (b a : Bufs) → Turn → Type 0
+abbrev pub Steps : GivenParts → Instr → Run → List ℕ → (b a : Bufs) → Turn → Type 0
 Steps p i r regs b a t = (e : Env) (d : ℕ) → Suits e p → Does e (p .replies) d (ruleOf e i) r (file regs) b a t

@@ -46,9 +46,9 @@ pub fn begin(
     log: &mut [u8],
 )
     ensures { λ _. ⌜ Begins (now (code .entry)) (now (preload .entry))
-        (lentAs (now (memory .entry)) (now (stack .entry)) (tables.bufs (now (changes .entry)) (now (fetched .entry)) (now (readable .entry))
+        (lentAs (now (memory .entry)) (now (stack .entry)) (tables.keyBufs (now (changes .entry)) (now (fetched .entry)) (now (readable .entry))
         (now (writable .entry)) (now (paid .entry))) (now (log .entry)) (now (starts .entry)))
-        (lentAs (now (memory .exit)) (now (stack .exit)) (tables.bufs (now (changes .exit)) (now (fetched .exit)) (now (readable .exit))
+        (lentAs (now (memory .exit)) (now (stack .exit)) (tables.keyBufs (now (changes .exit)) (now (fetched .exit)) (now (readable .exit))
         (now (writable .exit)) (now (paid .exit))) (now (log .exit)) (now (starts .exit))) ⌝ }
 {
     crate::buffers::wipe_work(memory, stack, starts, fetched, readable, writable, paid);

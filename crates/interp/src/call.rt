@@ -7,7 +7,7 @@ ghost use Rattle.opening.specs.Opened.{inputOf};
 ghost use Rattle.interp.specs.Call.{lentAs, called, callOf};
 use crate::answer::Answer;
 use opening::open::Call;
-use opening::open::Opening;
+use opening::open::OpenAnswer;
 use words::refusal::Refusal;
 
 // Memory of 65536 bytes, a stack of 1024 words, a map of 8192 bytes.
@@ -43,13 +43,13 @@ pub fn run(
 ) -> Answer
     ensures { λ r. ⌜ called r
         (lentAs (now (memory .exit)) (now (stack .exit))
-        (tables.bufs (now (changes .exit)) (now (fetched .exit)) (now (readable .exit)) (now (writable .exit)) (now (paid .exit)))
+        (tables.keyBufs (now (changes .exit)) (now (fetched .exit)) (now (readable .exit)) (now (writable .exit)) (now (paid .exit)))
         (now (log .exit)) (now (starts .exit)))
         ≡ callOf
         (inputOf call
         (now (container .entry)) (now (store .entry)) (now (loader .entry)) (now (replies .entry)) (now (preload .entry)))
         (lentAs (now (memory .entry)) (now (stack .entry))
-        (tables.bufs (now (changes .entry)) (now (fetched .entry)) (now (readable .entry)) (now (writable .entry)) (now (paid .entry)))
+        (tables.keyBufs (now (changes .entry)) (now (fetched .entry)) (now (readable .entry)) (now (writable .entry)) (now (paid .entry)))
         (now (log .entry)) (now (starts .entry))) ⌝ }
 {
     if !sizes_fit(memory.len(), stack.len(), starts.len()) {
@@ -63,7 +63,7 @@ pub fn run(
     }
     let o = opening::open::open(call, container, store, loader, replies);
     match o {
-        Opening::Done(x) => crate::enter::enter(
+        OpenAnswer::Done(x) => crate::enter::enter(
             x,
             call.limit,
             call.host,
@@ -82,6 +82,6 @@ pub fn run(
             paid,
             log,
         ),
-        Opening::Refused(end) => crate::answer::refused(end, 0),
+        OpenAnswer::Refused(end) => crate::answer::refused(end, 0),
     }
 }

@@ -1,8 +1,10 @@
-// An accepted opening, run over the container's parts where they stand.
+// An accepted opening, run over the container's parts where they stand: begun, run and finished.
 ghost use Rattle.keys.specs.Lent as tables;
 ghost use Rattle.interp.specs.Call.{lentAs};
 ghost use Rattle.interp.specs.Entered.{Entered, Enters};
 use crate::answer::Answer;
+use container::entries::Slots;
+use container::entries::words_of;
 use machine::host::Host;
 use opening::open::Opened;
 
@@ -26,47 +28,66 @@ pub fn enter(
     log: &mut [u8],
 ) -> Answer
     requires { ⌜ Entered o limit host (now container) (now store) (now loader) (now replies) (now preload)
-        (lentAs (now memory) (now stack) (tables.bufs (now changes) (now fetched) (now readable) (now writable) (now paid)) (now log) (now starts)) ⌝ }
+        (lentAs (now memory) (now stack) (tables.keyBufs (now changes) (now fetched) (now readable) (now writable) (now paid)) (now log) (now starts)) ⌝ }
     ensures { λ r. ⌜ Enters o limit host (now (container .entry)) (now (store .entry)) (now (loader .entry)) (now (replies .entry)) (now (preload .entry))
-        (lentAs (now (memory .entry)) (now (stack .entry)) (tables.bufs (now (changes .entry)) (now (fetched .entry)) (now (readable .entry))
+        (lentAs (now (memory .entry)) (now (stack .entry)) (tables.keyBufs (now (changes .entry)) (now (fetched .entry)) (now (readable .entry))
         (now (writable .entry)) (now (paid .entry))) (now (log .entry)) (now (starts .entry))) r
-        (lentAs (now (memory .exit)) (now (stack .exit)) (tables.bufs (now (changes .exit)) (now (fetched .exit)) (now (readable .exit))
+        (lentAs (now (memory .exit)) (now (stack .exit)) (tables.keyBufs (now (changes .exit)) (now (fetched .exit)) (now (readable .exit))
         (now (writable .exit)) (now (paid .exit))) (now (log .exit)) (now (starts .exit))) ⌝ }
 {
     let l = o.layout;
     let e = o.entry;
-    let code = l.code_at;
-    let code_end = code + l.code;
-    let consts = l.consts_at;
-    let consts_end = consts + l.consts * 8;
-    let r = e.reads;
-    let reads = r.at;
-    let reads_end = reads + r.count * 8;
-    let w = e.writes;
-    let writes = w.at;
-    let writes_end = writes + w.count * 8;
-    let kr = e.keyed_reads;
-    let keyed_reads = kr.at;
-    let keyed_reads_end = keyed_reads + kr.count * 8;
-    let kw = e.keyed_writes;
-    let keyed_writes = kw.at;
-    let keyed_writes_end = keyed_writes + kw.count * 8;
+    let code = words::bytes::part(container, l.code_at, l.code);
+    let consts = words_of(
+        container,
+        Slots {
+            at: l.consts_at,
+            count: l.consts,
+        },
+    );
+    let reads = words_of(container, e.reads);
+    let writes = words_of(container, e.writes);
+    let keyed_reads = words_of(container, e.keyed_reads);
+    let keyed_writes = words_of(container, e.keyed_writes);
     let start = crate::begin::first_run(e.offset, o.used, limit);
-    let lent = o.lent;
-    crate::drive::drive(
+    crate::begin::begin(
+        code,
+        preload,
+        memory,
+        stack,
+        starts,
+        changes,
+        fetched,
+        readable,
+        writable,
+        paid,
+        log,
+    );
+    let x = crate::exec::exec(
         start,
-        lent,
+        o.lent,
         host,
-        &container[code..code_end],
-        &container[consts..consts_end],
-        &container[reads..reads_end],
-        &container[writes..writes_end],
-        &container[keyed_reads..keyed_reads_end],
-        &container[keyed_writes..keyed_writes_end],
+        code,
+        consts,
+        reads,
+        writes,
+        keyed_reads,
+        keyed_writes,
         store,
         loader,
         replies,
-        preload,
+        starts,
+        memory,
+        stack,
+        changes,
+        fetched,
+        readable,
+        writable,
+        paid,
+        log,
+    );
+    crate::finish::finish(
+        x,
         memory,
         stack,
         starts,

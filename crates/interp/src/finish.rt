@@ -2,14 +2,14 @@
 ghost use mathlib.Core.Path.{_≡_};
 ghost use Rattle.keys.specs.Lent as tables;
 ghost use Rattle.interp.specs.Call.{lentAs};
-ghost use Rattle.interp.specs.Finished.{answerOf, Finishes};
+ghost use Rattle.interp.specs.Finished.{haltAnswer, Finishes};
 use crate::answer::Answer;
 use crate::exec::Ended;
 use words::refusal::Refusal;
 
 // The answer of a halt.
 fn halted(x: Ended) -> Answer
-    ensures { λ r. ⌜ r ≡ answerOf x ⌝ }
+    ensures { λ r. ⌜ r ≡ haltAnswer x ⌝ }
 {
     let run = x.run;
     let rows = run.counts;
@@ -43,9 +43,9 @@ pub fn finish(
     log: &mut [u8],
 ) -> Answer
     ensures { λ r. ⌜ Finishes x (lentAs (now (memory .entry)) (now (stack .entry))
-        (tables.bufs (now (changes .entry)) (now (fetched .entry)) (now (readable .entry)) (now (writable .entry)) (now (paid .entry))) (now (log .entry))
+        (tables.keyBufs (now (changes .entry)) (now (fetched .entry)) (now (readable .entry)) (now (writable .entry)) (now (paid .entry))) (now (log .entry))
         (now (starts .entry))) r (lentAs (now (memory .exit)) (now (stack .exit))
-        (tables.bufs (now (changes .exit)) (now (fetched .exit)) (now (readable .exit)) (now (writable .exit)) (now (paid .exit))) (now (log .exit))
+        (tables.keyBufs (now (changes .exit)) (now (fetched .exit)) (now (readable .exit)) (now (writable .exit)) (now (paid .exit))) (now (log .exit))
         (now (starts .exit))) ⌝ }
 {
     crate::buffers::wipe_work(memory, stack, starts, fetched, readable, writable, paid);

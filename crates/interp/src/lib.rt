@@ -3,7 +3,6 @@ pub mod answer;
 mod begin;
 mod buffers;
 pub mod call;
-mod drive;
 mod enter;
 mod exec;
 mod fetch;

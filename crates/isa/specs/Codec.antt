@@ -7,8 +7,8 @@ use lib.ListN.{length, take, drop}
 use Rattle.words.specs.Choice.{pick}
 use Rattle.words.specs.Bytes.{num, beBytes}
 use Rattle.isa.specs.declared.opcode.OpCode.{OpCode}
-use Rattle.isa.specs.declared.opcode.Op.{Op}
-use Rattle.isa.specs.declared.opcode.Op.the-variants.{Known, Unknown}
+use Rattle.isa.specs.declared.opcode.OpByte.{OpByte}
+use Rattle.isa.specs.declared.opcode.OpByte.the-variants.{Known, Unknown}
 use Rattle.isa.specs.declared.instr.Instr.{Instr}
 use Rattle.isa.specs.declared.codec.DecodeError.{DecodeError}
 use Rattle.isa.specs.declared.codec.DecodeError.the-variants.{UnknownOpcode, BadRegister, Truncated}
@@ -38,7 +38,7 @@ operandsOf o s =
     unless (refusalIn (regsOf o) (wideOf o) s)
     (decoded.Done (instrOf o s (num (take (wideOf o) (drop (regsOf o) s)))) (lengthOf o))
 
-unfoldable pub afterOpcode : Op → ℕ → List ℕ → Decoded
+unfoldable pub afterOpcode : OpByte → ℕ → List ℕ → Decoded
 afterOpcode (Known o) b s = operandsOf o s
 afterOpcode Unknown b s = decoded.Refused (UnknownOpcode b)
 
@@ -52,8 +52,8 @@ unfoldable pub decodeAt : List ℕ → ℕ → Decoded
 decodeAt code place = decodeList (drop place code)
 
 -- the bytes of an instruction: its opcode's, its registers, its number
-unfoldable pub bytesOf : Instr → List ℕ
-bytesOf i = byteOf (formOf i .op) ∷ formOf i .regs ++ beBytes (wideOf (formOf i .op)) (formOf i .number)
+unfoldable pub instrBytes : Instr → List ℕ
+instrBytes i = byteOf (formOf i .op) ∷ formOf i .regs ++ beBytes (wideOf (formOf i .op)) (formOf i .number)
 
 -- the first register of 16 or more
 unfoldable pub firstBad : List ℕ → FirstBad
@@ -66,7 +66,7 @@ encodedWith (Bad r) size room = encoded.Refused (error.BadRegister r)
 encodedWith NoneBad size room = pick (leb size room) (encoded.Done size) (encoded.Refused error.NoRoom)
 
 unfoldable pub encodedOf : Instr → List ℕ → Encoded
-encodedOf i out = encodedWith (firstBad (formOf i .regs)) (length (bytesOf i)) (length out)
+encodedOf i out = encodedWith (firstBad (formOf i .regs)) (length (instrBytes i)) (length out)
 
 -- what it leaves in the output: the bytes and what stood after them, or all as it was
 unfoldable pub outputAfter : Encoded → List ℕ → List ℕ → List ℕ
@@ -74,4 +74,4 @@ outputAfter (encoded.Done n) bytes out = bytes ++ drop n out
 outputAfter (encoded.Refused e) bytes out = out
 
 unfoldable pub outputOf : Instr → List ℕ → List ℕ
-outputOf i out = outputAfter (encodedOf i out) (bytesOf i) out
+outputOf i out = outputAfter (encodedOf i out) (instrBytes i) out

@@ -1,5 +1,5 @@
 -- What decoding answers, from what the code finds on its way. Assumes nothing.
-use Prim.Native.Nat.{ℕ, zero, suc, _+_, _-_, _^_, _≤_, _<_}
+use Prim.Native.Nat.{ℕ, zero, suc, _+_, _^_, _≤_, _<_}
 use mathlib.Core.Path.{_≡_, refl, ap, _∙_}
 use mathlib.Core.List.{List, [], _∷_}
 use mathlib.Core.Bool.{Bool, true, false}
@@ -15,8 +15,8 @@ use Rattle.words.specs.Choice.{pick}
 use Rattle.words.specs.Bytes.{num, Bytes}
 use Rattle.words.specs.BytesTheorems.{num-below}
 use Rattle.isa.specs.declared.opcode.OpCode.{OpCode}
-use Rattle.isa.specs.declared.opcode.Op.the-variants.{Known, Unknown}
-use Rattle.isa.specs.declared.opcode.Row.{Row}
+use Rattle.isa.specs.declared.opcode.OpByte.the-variants.{Known, Unknown}
+use Rattle.isa.specs.declared.opcode.OpRow.{OpRow}
 use Rattle.isa.specs.declared.instr.Instr.{Instr}
 use Rattle.isa.specs.declared.codec.DecodeError.{DecodeError}
 use Rattle.isa.specs.declared.codec.DecodeError.the-variants.{UnknownOpcode, BadRegister, Truncated}
@@ -60,7 +60,7 @@ refusal-is (suc n) w (b ∷ s) = by (ltb b 16) (refusal-is n w s)
 pub read-within : (s : List ℕ) (n w v : ℕ) → n + w ≤ length s → Bytes s → v ≡ num (take w (drop n s)) → v < 256 ^ w
 read-within s n w v h k e = rw e (num-below w (drop n s) (rw length-drop (omega arith)) (λ (j : ℕ). rw getD-drop (k (n + j))))
 
-module _ (o : OpCode) (s : List ℕ) (row : Row) (r : row ≡ rowOf o) where
+module _ (o : OpCode) (s : List ℕ) (row : OpRow) (r : row ≡ rowOf o) where
   operands-by : (f : FirstBad) (t : Bool) → firstBad (take (row .1) s) ≡ f → leb (row .1 + row .2) (length s) ≡ t →
       unless (refusalBy f t) (Done (instrOf o s (num (take (row .2) (drop (row .1) s)))) (1 + row .1 + row .2)) ≡ operandsOf o s
   unfolding operandsOf

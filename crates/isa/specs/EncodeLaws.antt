@@ -8,7 +8,7 @@ use lib.Seq.{paste, take-paste, drop-paste, drop-drop, drop-set-lt, take-all, le
 use borrow.Author.Tests.{le-leb, lt-leb}
 use Rattle.words.specs.Bytes.{beBytes}
 use Rattle.words.specs.BytesLaws.{length-beBytes}
-use Rattle.isa.specs.declared.opcode.Row.{Row}
+use Rattle.isa.specs.declared.opcode.OpRow.{OpRow}
 use Rattle.isa.specs.declared.instr.Instr.{Instr}
 use Rattle.isa.specs.declared.instr.Parts.{Parts}
 use Rattle.isa.specs.declared.codec.EncodeError.the-variants.{BadRegister, NoRoom}
@@ -16,10 +16,10 @@ use Rattle.isa.specs.declared.codec.Encoded.{Encoded}
 use Rattle.isa.specs.declared.codec.Encoded.the-variants.{Done, Refused}
 use Rattle.isa.specs.declared.codec.FirstBad.the-variants.{Bad, NoneBad}
 use Rattle.isa.specs.Table.{rowOf, lengthOf, regsOf, wideOf}
-use Rattle.isa.specs.TableLaws.{small}
+use Rattle.isa.specs.TableLaws.{row-bounds}
 use Rattle.isa.specs.Forms.{formOf, padded, six}
 use Rattle.isa.specs.FormLaws.{length-regs, from-take, from-from}
-use Rattle.isa.specs.Codec.{bytesOf, firstBad, encodedWith, encodedOf, outputAfter, outputOf}
+use Rattle.isa.specs.Codec.{instrBytes, firstBad, encodedWith, encodedOf, outputAfter, outputOf}
 
 -- a byte, then registers, then a number's bytes, each laid over what stood there
 module _ (out r : List ℕ) (byte n w v : ℕ) (h : 1 + n + w ≤ length out) (hr : n ≤ length r) where
@@ -43,8 +43,8 @@ module _ (out r : List ℕ) (byte n w v : ℕ) (h : 1 + n + w ≤ length out) (h
       q ∙ rw (t, z, b)
 
 -- an instruction's bytes are as many as its opcode says
-pub length-bytes : (i : Instr) → length (bytesOf i) ≡ lengthOf (formOf i .op)
-unfolding bytesOf
+pub length-bytes : (i : Instr) → length (instrBytes i) ≡ lengthOf (formOf i .op)
+unfolding instrBytes
 length-bytes i =
     let o = formOf i .op in
     omega (arith, length-append (formOf i .regs) (beBytes (wideOf o) (formOf i .number)), length-regs i, length-beBytes (wideOf o) (formOf i .number))
@@ -55,15 +55,15 @@ six-regs i =
     let n = regsOf (formOf i .op) in
     let r = formOf i .regs in
     let k : n ≤ length r = omega (arith, length-regs i) in
-    sym (from-take n (six r) (small (formOf i .op) .regs)) ∙ from-from 0 n 6 r (omega (arith, small (formOf i .op) .regs)) ∙ from-take n r k ∙ take-all n r (omega (arith, length-regs i))
+    sym (from-take n (six r) (row-bounds (formOf i .op) .regs)) ∙ from-from 0 n 6 r (omega (arith, row-bounds (formOf i .op) .regs)) ∙ from-take n r k ∙ take-all n r (omega (arith, length-regs i))
 
 -- an instruction taken apart, and its opcode's row
-module _ (i : Instr) (p : Parts) (row : Row) (ep : p ≡ padded (formOf i)) (er : row ≡ rowOf (p .0)) where
+module _ (i : Instr) (p : Parts) (row : OpRow) (ep : p ≡ padded (formOf i)) (er : row ≡ rowOf (p .0)) where
   row-is : row ≡ rowOf (formOf i .op)
   row-is = er ∙ ap (λ (q : Parts). rowOf (q .0)) ep
 
   pub regs-stand : row .1 ≤ length (p .1)
-  regs-stand = rw (row-is, ep) (small (formOf i .op) .regs)
+  regs-stand = rw (row-is, ep) (row-bounds (formOf i .op) .regs)
 
   regs-are : take (row .1) (p .1) ≡ formOf i .regs
   regs-are = rw (row-is, ep) (six-regs i)
@@ -74,15 +74,15 @@ module _ (i : Instr) (out : List ℕ) where
     pub answer : a ≡ encodedOf i out
     pub output : e ≡ outputOf i out
 
-  by : (a : Encoded) (e : List ℕ) → a ≡ encodedOf i out → e ≡ outputAfter a (bytesOf i) out → Answers a e
+  by : (a : Encoded) (e : List ℕ) → a ≡ encodedOf i out → e ≡ outputAfter a (instrBytes i) out → Answers a e
   unfolding outputOf
-  by a e p q = record { answer = p; output = q ∙ ap (λ (x : Encoded). outputAfter x (bytesOf i) out) p }
+  by a e p q = record { answer = p; output = q ∙ ap (λ (x : Encoded). outputAfter x (instrBytes i) out) p }
 
   pub encoded-bad : (b : ℕ) → firstBad (formOf i .regs) ≡ Bad b → Answers (Refused (BadRegister b)) out
   unfolding encodedOf encodedWith outputAfter
   encoded-bad b h = by (Refused (BadRegister b)) out (rw h) refl
 
-  module _ (p : Parts) (row : Row) (ep : p ≡ padded (formOf i)) (er : row ≡ rowOf (p .0)) (h : firstBad (formOf i .regs) ≡ NoneBad) where
+  module _ (p : Parts) (row : OpRow) (ep : p ≡ padded (formOf i)) (er : row ≡ rowOf (p .0)) (h : firstBad (formOf i .regs) ≡ NoneBad) where
     size-decides : encodedWith NoneBad (1 + row .1 + row .2) (length out) ≡ encodedOf i out
     unfolding encodedOf
     size-decides = rw (h, length-bytes i, row-is i p row ep er)
@@ -93,6 +93,6 @@ module _ (i : Instr) (out : List ℕ) where
 
     pub encoded-done : 1 + row .1 + row .2 ≤ length out → (e : List ℕ) →
         e ≡ (row .0 ∷ take (row .1) (p .1) ++ beBytes (row .2) (p .2)) ++ drop (1 + row .1 + row .2) out → Answers (Done (1 + row .1 + row .2)) e
-    unfolding encodedWith outputAfter bytesOf
+    unfolding encodedWith outputAfter instrBytes
     encoded-done l e q =
         by (Done (1 + row .1 + row .2)) e (sym (rw (le-leb (1 + row .1 + row .2) (length out) l)) ∙ size-decides) (q ∙ rw (regs-are i p row ep er, row-is i p row ep er, ep))

@@ -7,12 +7,13 @@ use lib.Dec.{eqb}
 use lib.ListN.{length, take, drop}
 use lib.Seq.{drop-cons}
 use Rattle.words.specs.Choice.{pick}
+use Rattle.words.specs.Lists.{nth}
 use Rattle.isa.specs.declared.opcode.OpCode.{OpCode}
 use Rattle.isa.specs.declared.instr.Instr.{Instr}
 use Rattle.isa.specs.declared.instr.Instr.the-variants as instr
 use Rattle.isa.specs.Table.{regsOf, wideOf}
-use Rattle.isa.specs.Computed.{from, kept, computed}
-use Rattle.isa.specs.Forms.{Form, form, formOf, instrOf, at}
+use Rattle.isa.specs.ComputedLaws.{from, kept, computed}
+use Rattle.isa.specs.Forms.{Form, form, formOf, instrOf}
 
 -- an instruction is that of its form
 pub rebuilt : (i : Instr) → instrOf (formOf i .op) (formOf i .regs) (formOf i .number) ≡ i
@@ -77,12 +78,12 @@ length-from k zero r = refl
 length-from k (suc n) r = ap suc (length-from (suc k) n r)
 
 -- an instruction keeps all of its form
-pub keeps : (i : Instr) → formOf i ≡ kept (formOf i .op) (formOf i .regs) (formOf i .number)
-keeps i = ap formOf (sym (rebuilt i)) ∙ taken (formOf i .op) (formOf i .regs) (formOf i .number)
+pub form-kept : (i : Instr) → formOf i ≡ kept (formOf i .op) (formOf i .regs) (formOf i .number)
+form-kept i = ap formOf (sym (rebuilt i)) ∙ taken (formOf i .op) (formOf i .regs) (formOf i .number)
 
 -- an instruction has as many registers as its opcode
 pub length-regs : (i : Instr) → length (formOf i .regs) ≡ regsOf (formOf i .op)
-length-regs i = ap (λ (f : Form). length (f .regs)) (keeps i) ∙ length-from 0 (regsOf (formOf i .op)) (formOf i .regs)
+length-regs i = ap (λ (f : Form). length (f .regs)) (form-kept i) ∙ length-from 0 (regsOf (formOf i .op)) (formOf i .regs)
 
 from-drop : (k n : ℕ) (r : List ℕ) → k + n ≤ length r → from k n r ≡ take n (drop k r)
 from-drop k zero r h = refl
@@ -98,17 +99,17 @@ same-regs o r s n e =
     same-form (instrOf o r n) (instrOf o s n)
     (taken o r n ∙ ap (λ (l : List ℕ). form o l (pick (eqb (wideOf o) 0) 0 n)) e ∙ sym (taken o s n))
 
-at-from : (j k i : ℕ) (r : List ℕ) → i < k → at (from j k r) i ≡ at r (j + i)
-at-from j zero i r h = absurd (omega arith)
-at-from j (suc k) zero r h = let e : j + 0 ≡ j = omega arith in rw e
-at-from j (suc k) (suc i) r h = let e : j + suc i ≡ suc j + i = omega arith in rw e (at-from (suc j) k i r (omega arith))
+nth-from : (j k i : ℕ) (r : List ℕ) → i < k → nth (from j k r) i ≡ nth r (j + i)
+nth-from j zero i r h = absurd (omega arith)
+nth-from j (suc k) zero r h = let e : j + 0 ≡ j = omega arith in rw e
+nth-from j (suc k) (suc i) r h = let e : j + suc i ≡ suc j + i = omega arith in rw e (nth-from (suc j) k i r (omega arith))
 
 -- of the first k registers, the first of them are the same
 pub from-from : (j n k : ℕ) (r : List ℕ) → j + n ≤ k → from j n (from 0 k r) ≡ from j n r
 from-from j zero k r h = refl
 from-from j (suc n) k r h =
     let e : 0 + j ≡ j = omega arith in
-    rw (at-from 0 k j r (omega arith), e, from-from (suc j) n k r (omega arith))
+    rw (nth-from 0 k j r (omega arith), e, from-from (suc j) n k r (omega arith))
 
 -- its own registers are enough for an opcode
 pub own-regs : (o : OpCode) (r : List ℕ) (n : ℕ) → instrOf o (from 0 (regsOf o) r) n ≡ instrOf o r n

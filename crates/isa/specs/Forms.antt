@@ -1,7 +1,7 @@
 -- An instruction as opcode, registers in order and number (document 01, Codec: isa.rs's operand order).
 use Prim.Native.Nat.{ℕ}
 use mathlib.Core.List.{List, [], _∷_}
-use lib.ListN.{getD}
+use Rattle.words.specs.Lists.{nth}
 use Rattle.isa.specs.declared.opcode.OpCode.{OpCode}
 use Rattle.isa.specs.declared.opcode.OpCode.the-variants as op
 use Rattle.isa.specs.declared.instr.Instr.{Instr}
@@ -62,59 +62,55 @@ formOf (instr.VerifySlh a b c) = form op.VerifySlh (a ∷ b ∷ c ∷ []) 0
 formOf (instr.MerkleVerify a b c) = form op.MerkleVerify (a ∷ b ∷ c ∷ []) 0
 formOf (instr.Addr a b c) = form op.Addr (a ∷ b ∷ c ∷ []) 0
 
--- register k of a list, 0 past its end
-abbrev pub at : List ℕ → ℕ → ℕ
-at r k = getD r k 0
-
 -- the instruction of an opcode, of the registers that a list begins with and of a number
 unfoldable pub instrOf : OpCode → List ℕ → ℕ → Instr
 instrOf op.Halt r n = instr.Halt
 instrOf op.Nop r n = instr.Nop
-instrOf op.Mov r n = instr.Mov (at r 0) (at r 1)
-instrOf op.Ldi r n = instr.Ldi (at r 0) n
-instrOf op.Ldc r n = instr.Ldc (at r 0) n
-instrOf op.Add r n = instr.Add (at r 0) (at r 1) (at r 2)
-instrOf op.Sub r n = instr.Sub (at r 0) (at r 1) (at r 2)
-instrOf op.Mul r n = instr.Mul (at r 0) (at r 1) (at r 2)
-instrOf op.Div r n = instr.Div (at r 0) (at r 1) (at r 2)
-instrOf op.Rem r n = instr.Rem (at r 0) (at r 1) (at r 2)
-instrOf op.AddW r n = instr.AddW (at r 0) (at r 1) (at r 2)
-instrOf op.SubW r n = instr.SubW (at r 0) (at r 1) (at r 2)
-instrOf op.MulW r n = instr.MulW (at r 0) (at r 1) (at r 2)
-instrOf op.MulHi r n = instr.MulHi (at r 0) (at r 1) (at r 2)
-instrOf op.DivW r n = instr.DivW (at r 0) (at r 1) (at r 2) (at r 3) (at r 4) (at r 5)
-instrOf op.RemW r n = instr.RemW (at r 0) (at r 1) (at r 2) (at r 3) (at r 4) (at r 5)
-instrOf op.And r n = instr.And (at r 0) (at r 1) (at r 2)
-instrOf op.Or r n = instr.Or (at r 0) (at r 1) (at r 2)
-instrOf op.Xor r n = instr.Xor (at r 0) (at r 1) (at r 2)
-instrOf op.Not r n = instr.Not (at r 0) (at r 1)
-instrOf op.Shl r n = instr.Shl (at r 0) (at r 1) (at r 2)
-instrOf op.Shr r n = instr.Shr (at r 0) (at r 1) (at r 2)
-instrOf op.Eq r n = instr.Eq (at r 0) (at r 1) (at r 2)
-instrOf op.LtU r n = instr.LtU (at r 0) (at r 1) (at r 2)
-instrOf op.GtU r n = instr.GtU (at r 0) (at r 1) (at r 2)
-instrOf op.Push r n = instr.Push (at r 0)
-instrOf op.Pop r n = instr.Pop (at r 0)
-instrOf op.MLoad r n = instr.MLoad (at r 0) (at r 1)
-instrOf op.MStore r n = instr.MStore (at r 0) (at r 1)
+instrOf op.Mov r n = instr.Mov (nth r 0) (nth r 1)
+instrOf op.Ldi r n = instr.Ldi (nth r 0) n
+instrOf op.Ldc r n = instr.Ldc (nth r 0) n
+instrOf op.Add r n = instr.Add (nth r 0) (nth r 1) (nth r 2)
+instrOf op.Sub r n = instr.Sub (nth r 0) (nth r 1) (nth r 2)
+instrOf op.Mul r n = instr.Mul (nth r 0) (nth r 1) (nth r 2)
+instrOf op.Div r n = instr.Div (nth r 0) (nth r 1) (nth r 2)
+instrOf op.Rem r n = instr.Rem (nth r 0) (nth r 1) (nth r 2)
+instrOf op.AddW r n = instr.AddW (nth r 0) (nth r 1) (nth r 2)
+instrOf op.SubW r n = instr.SubW (nth r 0) (nth r 1) (nth r 2)
+instrOf op.MulW r n = instr.MulW (nth r 0) (nth r 1) (nth r 2)
+instrOf op.MulHi r n = instr.MulHi (nth r 0) (nth r 1) (nth r 2)
+instrOf op.DivW r n = instr.DivW (nth r 0) (nth r 1) (nth r 2) (nth r 3) (nth r 4) (nth r 5)
+instrOf op.RemW r n = instr.RemW (nth r 0) (nth r 1) (nth r 2) (nth r 3) (nth r 4) (nth r 5)
+instrOf op.And r n = instr.And (nth r 0) (nth r 1) (nth r 2)
+instrOf op.Or r n = instr.Or (nth r 0) (nth r 1) (nth r 2)
+instrOf op.Xor r n = instr.Xor (nth r 0) (nth r 1) (nth r 2)
+instrOf op.Not r n = instr.Not (nth r 0) (nth r 1)
+instrOf op.Shl r n = instr.Shl (nth r 0) (nth r 1) (nth r 2)
+instrOf op.Shr r n = instr.Shr (nth r 0) (nth r 1) (nth r 2)
+instrOf op.Eq r n = instr.Eq (nth r 0) (nth r 1) (nth r 2)
+instrOf op.LtU r n = instr.LtU (nth r 0) (nth r 1) (nth r 2)
+instrOf op.GtU r n = instr.GtU (nth r 0) (nth r 1) (nth r 2)
+instrOf op.Push r n = instr.Push (nth r 0)
+instrOf op.Pop r n = instr.Pop (nth r 0)
+instrOf op.MLoad r n = instr.MLoad (nth r 0) (nth r 1)
+instrOf op.MStore r n = instr.MStore (nth r 0) (nth r 1)
 instrOf op.Jmp r n = instr.Jmp n
-instrOf op.Jz r n = instr.Jz (at r 0) n
-instrOf op.Jnz r n = instr.Jnz (at r 0) n
+instrOf op.Jz r n = instr.Jz (nth r 0) n
+instrOf op.Jnz r n = instr.Jnz (nth r 0) n
 instrOf op.Call r n = instr.Call n
 instrOf op.Ret r n = instr.Ret
-instrOf op.SLoad r n = instr.SLoad (at r 0) (at r 1)
-instrOf op.SStore r n = instr.SStore (at r 0) (at r 1)
-instrOf op.Send r n = instr.Send (at r 0) (at r 1) (at r 2)
-instrOf op.Emit r n = instr.Emit (at r 0) (at r 1) (at r 2)
-instrOf op.Hash r n = instr.Hash (at r 0) (at r 1) (at r 2)
-instrOf op.VerifyMl r n = instr.VerifyMl (at r 0) (at r 1) (at r 2)
-instrOf op.VerifySlh r n = instr.VerifySlh (at r 0) (at r 1) (at r 2)
-instrOf op.MerkleVerify r n = instr.MerkleVerify (at r 0) (at r 1) (at r 2)
-instrOf op.Addr r n = instr.Addr (at r 0) (at r 1) (at r 2)
+instrOf op.SLoad r n = instr.SLoad (nth r 0) (nth r 1)
+instrOf op.SStore r n = instr.SStore (nth r 0) (nth r 1)
+instrOf op.Send r n = instr.Send (nth r 0) (nth r 1) (nth r 2)
+instrOf op.Emit r n = instr.Emit (nth r 0) (nth r 1) (nth r 2)
+instrOf op.Hash r n = instr.Hash (nth r 0) (nth r 1) (nth r 2)
+instrOf op.VerifyMl r n = instr.VerifyMl (nth r 0) (nth r 1) (nth r 2)
+instrOf op.VerifySlh r n = instr.VerifySlh (nth r 0) (nth r 1) (nth r 2)
+instrOf op.MerkleVerify r n = instr.MerkleVerify (nth r 0) (nth r 1) (nth r 2)
+instrOf op.Addr r n = instr.Addr (nth r 0) (nth r 1) (nth r 2)
 
 -- the first six registers, with zeroes after the last
 abbrev pub six : List ℕ → List ℕ
-six r = at r 0 ∷ at r 1 ∷ at r 2 ∷ at r 3 ∷ at r 4 ∷ at r 5 ∷ []
+six r = nth r 0 ∷ nth r 1 ∷ nth r 2 ∷ nth r 3 ∷ nth r 4 ∷ nth r 5 ∷ []
 
 -- a form with its registers in an array of six
 abbrev pub padded : Form → Parts

@@ -10,9 +10,9 @@ use borrow.Author.Tests.{lt-ltb, le-ltb, ltb-true, ltb-false}
 use Rattle.words.specs.Choice.{pick}
 use Rattle.isa.specs.declared.codec.DecodeError.{DecodeError}
 use Rattle.isa.specs.declared.codec.DecodeError.the-variants.{BadRegister, Truncated}
-use Rattle.isa.specs.declared.codec.Got.{Got}
-use Rattle.isa.specs.declared.codec.Got.the-variants.{Byte, Refused}
-use Rattle.isa.specs.declared.codec.Read.{Read}
+use Rattle.isa.specs.declared.codec.GotByte.{GotByte}
+use Rattle.isa.specs.declared.codec.GotByte.the-variants.{Byte, Refused}
+use Rattle.isa.specs.declared.codec.ReadAt.{ReadAt}
 use Rattle.isa.specs.Reads.{reads, byteRead, asReg, regRead}
 
 module _ (code : List ℕ) (at : ℕ) where
@@ -23,8 +23,8 @@ module _ (code : List ℕ) (at : ℕ) where
   read-some h = rw (lt-ltb at (length code) h)
 
   -- a read r of a byte, whose register is known by what r got
-  module _ (r : Read) (e : r ≡ byteRead code at) where
-    reg-by : (g : Got) → r .got ≡ g → reads (asReg g) (r .at) ≡ regRead code at
+  module _ (r : ReadAt) (e : r ≡ byteRead code at) where
+    reg-by : (g : GotByte) → r .got ≡ g → reads (asReg g) (r .at) ≡ regRead code at
     reg-by g k = (λ i. reads (asReg (sym k i)) (r .at)) ∙ (λ i. reads (asReg (e i .got)) (e i .at))
 
     pub reg-is : (b : ℕ) → r .got ≡ Byte b → b < 16 → r ≡ regRead code at
@@ -37,24 +37,24 @@ module _ (code : List ℕ) (at : ℕ) where
     reg-missing x k = (λ i. reads (k i) (r .at)) ∙ reg-by (Refused x) k
 
 -- a byte that was read, and what a read that got none says of the place
-pub record Found (code : List ℕ) (at b next : ℕ) : Type 0 where
+pub record ByteFound (code : List ℕ) (at b next : ℕ) : Type 0 where
   pub inside : at < length code
   pub byte : getD code at 0 ≡ b
   pub after : next ≡ at + 1
 
-module _ (code : List ℕ) (at : ℕ) (r : Read) (e : r ≡ byteRead code at) where
-  abbrev picked : Bool → Read
+module _ (code : List ℕ) (at : ℕ) (r : ReadAt) (e : r ≡ byteRead code at) where
+  abbrev picked : Bool → ReadAt
   picked t = pick t (reads (Byte (getD code at 0)) (at + 1)) (reads (Refused Truncated) at)
 
-  pub got-byte : (b : ℕ) → r .got ≡ Byte b → Found code at b (r .at)
-  got-byte b k = go (ltb at (length code)) refl (sym (ap (λ (x : Read). x .got) e) ∙ k) (ap (λ (x : Read). x .at) e)
+  pub got-byte : (b : ℕ) → r .got ≡ Byte b → ByteFound code at b (r .at)
+  got-byte b k = go (ltb at (length code)) refl (sym (ap (λ (x : ReadAt). x .got) e) ∙ k) (ap (λ (x : ReadAt). x .at) e)
     where
-      go : (t : Bool) → ltb at (length code) ≡ t → picked t .got ≡ Byte b → r .at ≡ picked t .at → Found code at b (r .at)
+      go : (t : Bool) → ltb at (length code) ≡ t → picked t .got ≡ Byte b → r .at ≡ picked t .at → ByteFound code at b (r .at)
       go true t g n = let w : getD code at 0 ≡ b = cc in record { inside = ltb-true at (length code) t; byte = w; after = n }
       go false t g n = absurd (let z : _≡_ {A = ℕ} 0 1 = cc in omega arith)
 
   pub got-none : (x : DecodeError) → r .got ≡ Refused x → length code ≤ at
-  got-none x k = go (ltb at (length code)) refl (sym (ap (λ (x : Read). x .got) e) ∙ k)
+  got-none x k = go (ltb at (length code)) refl (sym (ap (λ (x : ReadAt). x .got) e) ∙ k)
     where
       go : (t : Bool) → ltb at (length code) ≡ t → picked t .got ≡ Refused x → length code ≤ at
       go true t g = absurd (let z : _≡_ {A = ℕ} 0 1 = cc in omega arith)

@@ -14,25 +14,25 @@ use Rattle.isa.specs.declared.codec.DecodeError.{DecodeError}
 use Rattle.isa.specs.declared.codec.DecodeError.the-variants.{BadRegister, Truncated}
 use Rattle.isa.specs.declared.codec.Decoded.{Decoded}
 use Rattle.isa.specs.declared.codec.Decoded.the-variants as decoded
-use Rattle.isa.specs.declared.codec.Got.{Got}
-use Rattle.isa.specs.declared.codec.Got.the-variants.{Byte, Refused}
-use Rattle.isa.specs.declared.codec.Read.{Read}
+use Rattle.isa.specs.declared.codec.GotByte.{GotByte}
+use Rattle.isa.specs.declared.codec.GotByte.the-variants.{Byte, Refused}
+use Rattle.isa.specs.declared.codec.ReadAt.{ReadAt}
 use Rattle.isa.specs.Table.{opAt}
 use Rattle.isa.specs.Codec.{refusalIn, afterOpcode, decodeList, decodeAt}
 use Rattle.isa.specs.Reads.{reads, byteRead, asReg, regRead}
 
 -- decode after the read of an opcode's byte
-abbrev pub afterByte : List ℕ → Got → ℕ → Decoded
+abbrev pub afterByte : List ℕ → GotByte → ℕ → Decoded
 afterByte code (Byte b) next = afterOpcode (opAt b) b (drop next code)
 afterByte code (Refused e) next = decoded.Refused e
 
 -- the first refusal, after the read of a register
-abbrev pub afterReg : Got → Option DecodeError → Option DecodeError
+abbrev pub afterReg : GotByte → Option DecodeError → Option DecodeError
 afterReg (Byte b) later = later
 afterReg (Refused e) later = some e
 
 module _ (code : List ℕ) (at : ℕ) where
-  abbrev found : Bool → Read
+  abbrev found : Bool → ReadAt
   found t = pick t (reads (Byte (getD code at 0)) (at + 1)) (reads (Refused Truncated) at)
 
   pub decode-reads : decodeAt code at ≡ afterByte code (byteRead code at .got) (byteRead code at .at)
@@ -52,6 +52,8 @@ module _ (code : List ℕ) (at : ℕ) where
     unfolding refusalIn
     operands-read = go (ltb at (length code)) refl
       where
-        go : (t : Bool) → ltb at (length code) ≡ t → refusalIn (suc k) w (drop at code) ≡ afterReg (asReg (found t .got)) (refusalIn k w (drop (found t .at) code))
-        go true t = rw (add-one at, drop-cons code at 0 (ltb-true at (length code) t)) (by-reg (getD code at 0) (ltb (getD code at 0) 16) (refusalIn k w (drop (suc at) code)))
+        go : (t : Bool) → ltb at (length code) ≡ t →
+            refusalIn (suc k) w (drop at code) ≡ afterReg (asReg (found t .got)) (refusalIn k w (drop (found t .at) code))
+        go true t =
+            rw (add-one at, drop-cons code at 0 (ltb-true at (length code) t)) (by-reg (getD code at 0) (ltb (getD code at 0) 16) (refusalIn k w (drop (suc at) code)))
         go false t = rw (drop-of-length-le code (ltb-false at (length code) t))

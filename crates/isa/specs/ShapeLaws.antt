@@ -15,7 +15,7 @@ use borrow.Author.Tests.{le-leb, lt-leb, leb-true, eq-eqb, eqb-true}
 use Rattle.words.specs.Choice.{pick, both, either}
 use Rattle.words.specs.Bytes.{num}
 use Rattle.isa.specs.declared.opcode.OpCode.{OpCode}
-use Rattle.isa.specs.declared.opcode.Row.{Row}
+use Rattle.isa.specs.declared.opcode.OpRow.{OpRow}
 use Rattle.isa.specs.declared.instr.Instr.{Instr}
 use Rattle.isa.specs.declared.codec.DecodeError.{DecodeError}
 use Rattle.isa.specs.declared.codec.DecodeError.the-variants.{BadRegister}
@@ -26,7 +26,7 @@ use Rattle.isa.specs.declared.codec.FirstBad.the-variants.{Bad, NoneBad}
 use Rattle.isa.specs.Table.{rowOf, byteOf, regsOf, wideOf, opcodes}
 use Rattle.isa.specs.TableLaws.{allOf, tests-where, same-byte}
 use Rattle.isa.specs.Forms.{instrOf}
-use Rattle.isa.specs.Computed.{from}
+use Rattle.isa.specs.ComputedLaws.{from}
 use Rattle.isa.specs.FormLaws.{own-regs}
 use Rattle.isa.specs.Codec.{firstBad, refusalIn, unless, operandsOf}
 use Rattle.isa.specs.DecodeLaws.{refusalBy, refusal-is}
@@ -91,7 +91,8 @@ abbrev pub shaped : ℕ → ℕ → OpCode → Bool
 shaped n w o = both (eqb (regsOf o) n) (eqb (wideOf o) w)
 
 -- where a test leaves one opcode of a shape
-pub only : (f : OpCode → Bool) (n w : ℕ) (p : OpCode) → allOf (λ (o : OpCode). pick (both (shaped n w o) (f o)) (eqb (byteOf o) (byteOf p)) true) opcodes ≡ true →
+pub only : (f : OpCode → Bool) (n w : ℕ) (p : OpCode) →
+    allOf (λ (o : OpCode). pick (both (shaped n w o) (f o)) (eqb (byteOf o) (byteOf p)) true) opcodes ≡ true →
     (o : OpCode) → Shape o n w → f o ≡ true → o ≡ p
 only f n w p h o e k =
     same-byte o p (eqb-true (byteOf o) (byteOf p)
@@ -99,7 +100,8 @@ only f n w p h o e k =
     (rw (eq-eqb (regsOf o) n (e .0), eq-eqb (wideOf o) w (e .1), k))))
 
 -- after n registers a number has k bytes where its width is none of some
-pub widths : (ks : List ℕ) (k n w : ℕ) → allOf (λ (o : OpCode). pick (eqb (regsOf o) n) (either (eqb (wideOf o) k) (hasKey ks (wideOf o))) true) opcodes ≡ true →
+pub widths : (ks : List ℕ) (k n w : ℕ) →
+    allOf (λ (o : OpCode). pick (eqb (regsOf o) n) (either (eqb (wideOf o) k) (hasKey ks (wideOf o))) true) opcodes ≡ true →
     (o : OpCode) → Shape o n w → (OneOf ks w → ⊥) → w ≡ k
 widths ks k n w h o e others =
     go (eqb w k) refl (rw (e .1) at (tests-where (λ (o : OpCode). eqb (regsOf o) n) (λ (o : OpCode). either (eqb (wideOf o) k) (hasKey ks (wideOf o))) h o (eq-eqb (regsOf o) n (e .0))))
@@ -109,9 +111,9 @@ widths ks k n w h o e others =
     go false q j = absurd (others (hit ks w (subst T (sym j) tt)))
 
 -- the row of an opcode tells its shape
-module _ (o : OpCode) (row : Row) (r : row ≡ rowOf o) where
+module _ (o : OpCode) (row : OpRow) (r : row ≡ rowOf o) where
   pub row-shape : (n : ℕ) → row .1 ≡ n → Shape o n (row .2)
-  row-shape n e = (sym (ap (λ (x : Row). x .1) r) ∙ e, sym (ap (λ (x : Row). x .2) r))
+  row-shape n e = (sym (ap (λ (x : OpRow). x .1) r) ∙ e, sym (ap (λ (x : OpRow). x .2) r))
 
   pub row-bare : (n : ℕ) → allOf (λ (o : OpCode). pick (eqb (regsOf o) n) (either (eqb (wideOf o) 0) false) true) opcodes ≡ true → row .1 ≡ n → Shape o n 0
   row-bare n h e = let s = row-shape n e in (s .0, s .1 ∙ widths [] 0 n (row .2) h o s (λ e. e))
@@ -119,5 +121,5 @@ module _ (o : OpCode) (row : Row) (r : row ≡ rowOf o) where
   pub row-six : 4 ≤ row .1 → Shape o 6 0
   unfolding rowOf
   row-six h =
-      let e : row .1 ≡ regsOf o = ap (λ (x : Row). x .1) r in
+      let e : row .1 ≡ regsOf o = ap (λ (x : OpRow). x .1) r in
       row-bare 6 refl (e ∙ eqb-true (regsOf o) 6 (tests-where (λ (o : OpCode). leb 4 (regsOf o)) (λ (o : OpCode). eqb (regsOf o) 6) refl o (le-leb 4 (regsOf o) (omega (arith, e)))))

@@ -5,58 +5,58 @@ use lib.Dec.{eqb}
 use Rattle.words.specs.Choice.{pick}
 use Rattle.isa.specs.declared.opcode.OpCode.{OpCode}
 use Rattle.isa.specs.declared.opcode.OpCode.the-variants.{Halt, Nop, Mov, Ldi, Ldc, Add, Sub, Mul, Div, Rem, AddW, SubW, MulW, MulHi, DivW, RemW, And, Or, Xor, Not, Shl, Shr, Eq, LtU, GtU, Push, Pop, MLoad, MStore, Jmp, Jz, Jnz, Call, Ret, SLoad, SStore, Send, Emit, Hash, VerifyMl, VerifySlh, MerkleVerify, Addr}
-use Rattle.isa.specs.declared.opcode.Op.{Op}
-use Rattle.isa.specs.declared.opcode.Op.the-variants.{Known, Unknown}
-use Rattle.isa.specs.declared.opcode.Row.{Row}
+use Rattle.isa.specs.declared.opcode.OpByte.{OpByte}
+use Rattle.isa.specs.declared.opcode.OpByte.the-variants.{Known, Unknown}
+use Rattle.isa.specs.declared.opcode.OpRow.{OpRow}
 
-abbrev pub row : ℕ → ℕ → ℕ → ℕ → Row
-row byte regs wide price = (byte, regs, wide, price)
+abbrev pub opRow : ℕ → ℕ → ℕ → ℕ → OpRow
+opRow byte regs wide price = (byte, regs, wide, price)
 
 -- byte, registers, bytes of number after them, base price
-unfoldable pub rowOf : OpCode → Row
-rowOf Halt = row 0 0 0 0
-rowOf Nop = row 1 0 0 1
-rowOf Mov = row 2 2 0 1
-rowOf Ldi = row 3 1 8 1
-rowOf Ldc = row 4 1 2 1
-rowOf Add = row 16 3 0 2
-rowOf Sub = row 17 3 0 2
-rowOf Mul = row 18 3 0 3
-rowOf Div = row 19 3 0 4
-rowOf Rem = row 20 3 0 4
-rowOf AddW = row 24 3 0 2
-rowOf SubW = row 25 3 0 2
-rowOf MulW = row 26 3 0 3
-rowOf MulHi = row 27 3 0 3
-rowOf DivW = row 28 6 0 8
-rowOf RemW = row 29 6 0 8
-rowOf And = row 32 3 0 1
-rowOf Or = row 33 3 0 1
-rowOf Xor = row 34 3 0 1
-rowOf Not = row 35 2 0 1
-rowOf Shl = row 36 3 0 1
-rowOf Shr = row 37 3 0 1
-rowOf Eq = row 40 3 0 1
-rowOf LtU = row 41 3 0 1
-rowOf GtU = row 42 3 0 1
-rowOf Push = row 48 1 0 2
-rowOf Pop = row 49 1 0 2
-rowOf MLoad = row 56 2 0 3
-rowOf MStore = row 57 2 0 3
-rowOf Jmp = row 64 0 4 2
-rowOf Jz = row 65 1 4 2
-rowOf Jnz = row 66 1 4 2
-rowOf Call = row 67 0 4 3
-rowOf Ret = row 68 0 0 2
-rowOf SLoad = row 80 2 0 100
-rowOf SStore = row 81 2 0 500
-rowOf Send = row 96 3 0 200
-rowOf Emit = row 97 3 0 200
-rowOf Hash = row 112 3 0 200
-rowOf VerifyMl = row 113 3 0 60000
-rowOf VerifySlh = row 114 3 0 340000
-rowOf MerkleVerify = row 115 3 0 512
-rowOf Addr = row 118 3 0 4000
+unfoldable pub rowOf : OpCode → OpRow
+rowOf Halt = opRow 0 0 0 0
+rowOf Nop = opRow 1 0 0 1
+rowOf Mov = opRow 2 2 0 1
+rowOf Ldi = opRow 3 1 8 1
+rowOf Ldc = opRow 4 1 2 1
+rowOf Add = opRow 16 3 0 2
+rowOf Sub = opRow 17 3 0 2
+rowOf Mul = opRow 18 3 0 3
+rowOf Div = opRow 19 3 0 4
+rowOf Rem = opRow 20 3 0 4
+rowOf AddW = opRow 24 3 0 2
+rowOf SubW = opRow 25 3 0 2
+rowOf MulW = opRow 26 3 0 3
+rowOf MulHi = opRow 27 3 0 3
+rowOf DivW = opRow 28 6 0 8
+rowOf RemW = opRow 29 6 0 8
+rowOf And = opRow 32 3 0 1
+rowOf Or = opRow 33 3 0 1
+rowOf Xor = opRow 34 3 0 1
+rowOf Not = opRow 35 2 0 1
+rowOf Shl = opRow 36 3 0 1
+rowOf Shr = opRow 37 3 0 1
+rowOf Eq = opRow 40 3 0 1
+rowOf LtU = opRow 41 3 0 1
+rowOf GtU = opRow 42 3 0 1
+rowOf Push = opRow 48 1 0 2
+rowOf Pop = opRow 49 1 0 2
+rowOf MLoad = opRow 56 2 0 3
+rowOf MStore = opRow 57 2 0 3
+rowOf Jmp = opRow 64 0 4 2
+rowOf Jz = opRow 65 1 4 2
+rowOf Jnz = opRow 66 1 4 2
+rowOf Call = opRow 67 0 4 3
+rowOf Ret = opRow 68 0 0 2
+rowOf SLoad = opRow 80 2 0 100
+rowOf SStore = opRow 81 2 0 500
+rowOf Send = opRow 96 3 0 200
+rowOf Emit = opRow 97 3 0 200
+rowOf Hash = opRow 112 3 0 200
+rowOf VerifyMl = opRow 113 3 0 60000
+rowOf VerifySlh = opRow 114 3 0 340000
+rowOf MerkleVerify = opRow 115 3 0 512
+rowOf Addr = opRow 118 3 0 4000
 
 abbrev pub byteOf : OpCode → ℕ
 byteOf o = rowOf o .0
@@ -82,10 +82,10 @@ opcodes =
     Ret ∷ SLoad ∷ SStore ∷ Send ∷ Emit ∷ Hash ∷ VerifyMl ∷ VerifySlh ∷ MerkleVerify ∷ Addr ∷ []
 
 -- the opcode among these that has a byte
-unfoldable pub find : ℕ → List OpCode → Op
-find b [] = Unknown
-find b (o ∷ os) = pick (eqb b (byteOf o)) (Known o) (find b os)
+unfoldable pub opWith : ℕ → List OpCode → OpByte
+opWith b [] = Unknown
+opWith b (o ∷ os) = pick (eqb b (byteOf o)) (Known o) (opWith b os)
 
-unfoldable pub opAt : ℕ → Op
-unfolding find
-opAt b = find b opcodes
+unfoldable pub opAt : ℕ → OpByte
+unfolding opWith
+opAt b = opWith b opcodes

@@ -10,7 +10,7 @@ ghost use Rattle.isa.specs.Reads.{byteRead, regRead};
 ghost use Rattle.isa.specs.Shapes.{Shape, isNone, refusedBy};
 ghost use Rattle.isa.specs.Answers.{decodeError, encodeError};
 use super::instr::Instr;
-use super::opcode::Op;
+use super::opcode::OpByte;
 use super::opcode::OpCode;
 use words::refusal::Refusal;
 
@@ -26,14 +26,14 @@ pub enum Decoded {
 }
 
 // What stands at a place.
-pub enum Got {
+pub enum GotByte {
     Byte(u8),
     Refused(DecodeError),
 }
 
 // What was read, and the place of the next read.
-pub struct Read {
-    pub got: Got,
+pub struct ReadAt {
+    pub got: GotByte,
     pub at: usize,
 }
 
@@ -85,39 +85,39 @@ impl EncodeError {
 }
 
 // The byte at a place of the code.
-pub fn read_byte(code: &[u8], at: usize) -> Read
+pub fn read_byte(code: &[u8], at: usize) -> ReadAt
     ensures { λ r. ⌜ r ≡ byteRead (now (code .entry)) at ⌝ }
 {
     if code.len() <= at {
-        return Read {
-            got: Got::Refused(DecodeError::Truncated),
+        return ReadAt {
+            got: GotByte::Refused(DecodeError::Truncated),
             at,
         };
     }
     let b = code[at];
-    Read {
-        got: Got::Byte(b),
+    ReadAt {
+        got: GotByte::Byte(b),
         at: at + 1,
     }
 }
 
 // The byte at a place of the code, which must be a register; a byte that is none has been read all the same.
-pub fn read_reg(code: &[u8], at: usize) -> Read
+pub fn read_reg(code: &[u8], at: usize) -> ReadAt
     ensures { λ r. ⌜ r ≡ regRead (now (code .entry)) at ⌝ }
 {
     let r = read_byte(code, at);
     let got = r.got;
     match got {
-        Got::Byte(b) => {
+        GotByte::Byte(b) => {
             if OpCode::NUM_REGS <= b {
-                return Read {
-                    got: Got::Refused(DecodeError::BadRegister(b)),
+                return ReadAt {
+                    got: GotByte::Refused(DecodeError::BadRegister(b)),
                     at: r.at,
                 };
             }
             r
         }
-        Got::Refused(_) => r,
+        GotByte::Refused(_) => r,
     }
 }
 
@@ -251,7 +251,7 @@ pub fn decode(code: &[u8], place: usize) -> Decoded
         return Decoded::Refused(DecodeError::Truncated);
     }
     let b = code[place];
-    let Op::Known(op) = OpCode::from_byte(b) else {
+    let OpByte::Known(op) = OpCode::from_byte(b) else {
         return Decoded::Refused(DecodeError::UnknownOpcode(b));
     };
     let at = place + 1;

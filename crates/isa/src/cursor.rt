@@ -1,8 +1,8 @@
 // A reader that holds the code and a place in it, kept thin: its reads are decode's, at that place.
 ghost use mathlib.Core.Path.{_≡_};
 ghost use Rattle.isa.specs.Reads.{byteRead, regRead};
-ghost use Rattle.isa.specs.Cursor.{cursorAt, Reading, byteThenReg};
-use super::codec::Got;
+ghost use Rattle.isa.specs.Cursor.{cursorAt, CursorReads, byteThenReg};
+use super::codec::GotByte;
 
 pub struct Cursor<'a> {
     pub code: &'a [u8],
@@ -11,8 +11,8 @@ pub struct Cursor<'a> {
 
 // What two reads in a row got, and the place of the next.
 pub struct TwoReads {
-    pub byte: Got,
-    pub reg: Got,
+    pub byte: GotByte,
+    pub reg: GotByte,
     pub at: usize,
 }
 
@@ -23,16 +23,16 @@ impl<'a> Cursor<'a> {
         Cursor { code, at }
     }
 
-    pub fn byte<'s>(&'s mut self) -> Got
-        ensures { λ g. ⌜ Reading byteRead (now (self .entry)) (now (self .exit)) g ⌝ }
+    pub fn byte<'s>(&'s mut self) -> GotByte
+        ensures { λ g. ⌜ CursorReads byteRead (now (self .entry)) (now (self .exit)) g ⌝ }
     {
         let r = super::codec::read_byte(self.code, self.at);
         self.at = r.at;
         r.got
     }
 
-    pub fn reg<'s>(&'s mut self) -> Got
-        ensures { λ g. ⌜ Reading regRead (now (self .entry)) (now (self .exit)) g ⌝ }
+    pub fn reg<'s>(&'s mut self) -> GotByte
+        ensures { λ g. ⌜ CursorReads regRead (now (self .entry)) (now (self .exit)) g ⌝ }
     {
         let r = super::codec::read_reg(self.code, self.at);
         self.at = r.at;

@@ -8,20 +8,20 @@ use Rattle.words.specs.Choice.{either}
 use Rattle.words.specs.ChoiceLaws.{both-left, both-right, both-true}
 use Rattle.words.specs.Lists.{member}
 use Rattle.tables.specs.Rows.{rows}
-use Rattle.keys.specs.Known.{Env, Keys}
+use Rattle.keys.specs.Known.{KeyEnv, Keys}
 use Rattle.keys.specs.Values.{row, has}
 use Rattle.keys.specs.Steps.{fits, keyed, keyPrice, keyPriceAt, keyBytes, keyBytesAt, authorised}
-use Rattle.keys.specs.Lent.{Bufs, Given, bufs, envOf, keysOf, roomsOf}
-use Rattle.keys.specs.Sound.{Good, Put, Leaves, holds}
+use Rattle.keys.specs.Lent.{KeyBufs, Given, keyBufs, keyEnvOf, keysOf, roomsOf}
+use Rattle.keys.specs.Sound.{Good, PutIf, Leaves, holds}
 use Rattle.keys.specs.KeyPlans.{keyPlan, keyFits, KeyReady}
 use Rattle.keys.specs.RoomLaws.{table-fits, held-put}
 use Rattle.keys.specs.declared.counts.Counts.{Counts}
 use Rattle.keys.specs.declared.look.TableRows.{TableRows}
 use Rattle.keys.specs.declared.authorise.KeyPlan.{KeyPlan}
 
-module _ (l : TableRows) (g : Given) (c : Counts) (b : Bufs) (ok : Good c b) (base k : ℕ) where
-  abbrev e : Env
-  e = envOf l g
+module _ (l : TableRows) (g : Given) (c : Counts) (b : KeyBufs) (ok : Good c b) (base k : ℕ) where
+  abbrev e : KeyEnv
+  e = keyEnvOf l g
 
   abbrev s : Keys
   s = keysOf c b
@@ -78,19 +78,19 @@ module _ (l : TableRows) (g : Given) (c : Counts) (b : Bufs) (ok : Good c b) (ba
         let f = fits-is ∙ r in
         record { read-held = ok .may-read .table; write-held = ok .may-write .table; read-fit = both-left x y f; write-fit = both-right x y f }
 
-    pub authorised-so : (nr nw : ℕ) (ur uw : List ℕ) → Put 32 (c .reads) nr true (row k 0) (b .may-read) ur
-        → Put 32 (c .writes) nw (p .write) (row k 0) (b .may-write) uw
+    pub authorised-so : (nr nw : ℕ) (ur uw : List ℕ) → PutIf 32 (c .reads) nr true (row k 0) (b .may-read) ur
+        → PutIf 32 (c .writes) nw (p .write) (row k 0) (b .may-write) uw
         → Leaves (authorised e s base k)
         (record { changes = c .changes; fetched = c .fetched; reads = nr; writes = nw; paid = c .paid })
-        (bufs (b .changes) (b .fetched) ur uw (b .paid))
+        (keyBufs (b .changes) (b .fetched) ur uw (b .paid))
     unfolding authorised
     authorised-so nr nw ur uw pr pw = record {
       are = rw (← write-is, pr .are, pw .are);
       good = record {
         changes = ok .changes;
         fetched = ok .fetched;
-        may-read = held-put _ _ _ _ _ _ _ (ok .may-read) pr;
-        may-write = held-put _ _ _ _ _ _ _ (ok .may-write) pw;
+        may-read = held-put (ok .may-read) pr;
+        may-write = held-put (ok .may-write) pw;
         paid = ok .paid;
       };
     }

@@ -6,17 +6,17 @@ use Prim.Native.Nat.{ℕ}
 use Rattle.words.specs.Choice.{both}
 use Rattle.words.specs.Lists.{member}
 use Rattle.tables.specs.Table.{Table}
-use Rattle.keys.specs.Known.{Env, Keys, Rooms}
+use Rattle.keys.specs.Known.{KeyEnv, Keys, Rooms}
 use Rattle.keys.specs.Values.{row}
 use Rattle.keys.specs.Steps.{fits, keyed, keyPriceAt, keyBytesAt, authorised}
-use Rattle.keys.specs.Lent.{Bufs, Given, envOf, keysOf, roomsOf}
+use Rattle.keys.specs.Lent.{KeyBufs, Given, keyEnvOf, keysOf, roomsOf}
 use Rattle.keys.specs.Sound.{Good, Leaves, holds}
 use Rattle.keys.specs.declared.counts.Counts.{Counts}
 use Rattle.keys.specs.declared.look.TableRows.{TableRows}
 use Rattle.keys.specs.declared.authorise.KeyPlan.{KeyPlan}
 
 -- whether the base is declared keyed, and for writing; the price, the bytes of new entries, and whether every table holds what is authorised
-unfoldable pub keyPlan : Rooms → Env → Keys → (base k : ℕ) → KeyPlan
+unfoldable pub keyPlan : Rooms → KeyEnv → Keys → (base k : ℕ) → KeyPlan
 keyPlan r e s base k = record {
   keyed = keyed e base;
   write = member base (e .keyed-writes);
@@ -26,12 +26,13 @@ keyPlan r e s base k = record {
 }
 
 -- a plan made over good tables is that plan
-abbrev pub PlansKey : TableRows → Given → Counts → Bufs → (base k : ℕ) → KeyPlan → Type 0
-PlansKey l g c b base k p = Good c b → p ≡ keyPlan (roomsOf b) (envOf l g) (keysOf c b) base k
+abbrev pub PlansKey : TableRows → Given → Counts → KeyBufs → (base k : ℕ) → KeyPlan → Type 0
+PlansKey l g c b base k p = Good c b → p ≡ keyPlan (roomsOf b) (keyEnvOf l g) (keysOf c b) base k
 
 -- over good tables, and as planned, authorising leaves what the rule says
-abbrev pub Authorises : TableRows → Given → (base k : ℕ) → KeyPlan → (c r : Counts) → (b a : Bufs) → Type 0
-Authorises l g base k p c r b a = Good c b → p ≡ keyPlan (roomsOf b) (envOf l g) (keysOf c b) base k → Leaves (authorised (envOf l g) (keysOf c b) base k) r a
+abbrev pub Authorises : TableRows → Given → (base k : ℕ) → KeyPlan → (c r : Counts) → (b a : KeyBufs) → Type 0
+Authorises l g base k p c r b a =
+    Good c b → p ≡ keyPlan (roomsOf b) (keyEnvOf l g) (keysOf c b) base k → Leaves (authorised (keyEnvOf l g) (keysOf c b) base k) r a
 
 -- the two lists hold the key
 unfoldable pub keyFits : Counts → ℕ → Bool → (readable writable : List ℕ) → Bool

@@ -5,7 +5,7 @@ use Prim.Native.Nat.{ℕ}
 use Rattle.tables.specs.Rows.{Row}
 
 -- the slots that an entry declares, the store, and the loader if there is one: never changed
-pub record Env : Type 0 where
+pub record KeyEnv : Type 0 where
   pub reads : List ℕ
   pub writes : List ℕ
   pub keyed-reads : List ℕ

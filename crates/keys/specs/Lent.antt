@@ -6,12 +6,12 @@ use Prim.Native.Nat.{ℕ}
 use lib.ListN.{length}
 use Rattle.words.specs.Bytes.{wordsIn}
 use Rattle.tables.specs.Rows.{Row, rows}
-use Rattle.keys.specs.Known.{Env, Keys, Rooms}
+use Rattle.keys.specs.Known.{KeyEnv, Keys, Rooms}
 use Rattle.keys.specs.declared.counts.Counts.{Counts}
 use Rattle.keys.specs.declared.look.TableRows.{TableRows}
 
 -- the five tables' bytes
-pub record Bufs : Type 0 where
+pub record KeyBufs : Type 0 where
   pub changes : List ℕ
   pub fetched : List ℕ
   pub may-read : List ℕ
@@ -19,8 +19,8 @@ pub record Bufs : Type 0 where
   pub paid : List ℕ
 
 -- in the order of the calls
-abbrev pub bufs : List ℕ → List ℕ → List ℕ → List ℕ → List ℕ → Bufs
-bufs a b c d e = record { changes = a; fetched = b; may-read = c; may-write = d; paid = e }
+abbrev pub keyBufs : List ℕ → List ℕ → List ℕ → List ℕ → List ℕ → KeyBufs
+keyBufs a b c d e = record { changes = a; fetched = b; may-read = c; may-write = d; paid = e }
 
 -- the bytes that are only read
 pub record Given : Type 0 where
@@ -41,18 +41,18 @@ loaderOf true rs = some rs
 loaderOf false rs = none
 
 -- what a run is given: declared slots, the store's rows, the loader's
-abbrev pub envOf : TableRows → Given → Env
-envOf l g = record {
+abbrev pub keyEnvOf : TableRows → Given → KeyEnv
+keyEnvOf l g = record {
   reads = wordsIn (g .reads);
   writes = wordsIn (g .writes);
   keyed-reads = wordsIn (g .keyed-reads);
   keyed-writes = wordsIn (g .keyed-writes);
   store = rows 40 (l .store) (g .store);
-  loader = loaderOf (l .present) (rows 40 (l .loader) (g .loader));
+  loader = loaderOf (l .«has_loader») (rows 40 (l .loader) (g .loader));
 }
 
 -- what a run knows: the counted rows of each table
-abbrev pub keysOf : Counts → Bufs → Keys
+abbrev pub keysOf : Counts → KeyBufs → Keys
 keysOf c b = record {
   changes = rows 40 (c .changes) (b .changes);
   fetched = rows 40 (c .fetched) (b .fetched);
@@ -62,7 +62,7 @@ keysOf c b = record {
 }
 
 -- the bytes lent for each table
-abbrev pub roomsOf : Bufs → Rooms
+abbrev pub roomsOf : KeyBufs → Rooms
 roomsOf b = record {
   changes = length (b .changes);
   fetched = length (b .fetched);

@@ -4,11 +4,23 @@ use mathlib.Core.List.{List}
 use Prim.Native.Nat.{ℕ, _*_, _-_, _≤_}
 use native.Mathlib.Omega.{arith}
 use native.Mathlib.Nat.{zero-mul}
-use lib.ListN.{length}
+use lib.ListN.{length, replicate}
 use Rattle.tables.specs.Rows.{rows}
-use Rattle.keys.specs.Lent.{Bufs, keysOf}
+use Rattle.keys.specs.Lent.{KeyBufs, keysOf}
 use Rattle.keys.specs.Sound.{Held, Good}
-use Rattle.keys.specs.Opening.{noRows, noKeys, Zero, Wiped}
+use Rattle.keys.specs.Opening.{noRows, noKeys}
+
+-- every byte is 0
+abbrev pub Zero : List ℕ → Type 0
+Zero t = t ≡ replicate (length t) 0
+
+-- in every table
+pub record Wiped (b : KeyBufs) : Type 0 where
+  pub changes : Zero (b .changes)
+  pub fetched : Zero (b .fetched)
+  pub may-read : Zero (b .may-read)
+  pub may-write : Zero (b .may-write)
+  pub paid : Zero (b .paid)
 
 held-none : (w : ℕ) (t : List ℕ) → 32 ≤ w → Zero t → Held w 0 t
 unfolding rows
@@ -17,7 +29,7 @@ held-none w t h z =
     let n : length t - 0 ≡ length t = omega arith in
     record { table = record { wide = h; fits = omega (arith, e); rising = tt }; rest = rw (e, n) z }
 
-pub opening-good : (b : Bufs) → Wiped b → Good noRows b
+pub opening-good : (b : KeyBufs) → Wiped b → Good noRows b
 opening-good b z = record {
   changes = held-none 40 (b .changes) (omega arith) (z .changes);
   fetched = held-none 40 (b .fetched) (omega arith) (z .fetched);
@@ -26,6 +38,6 @@ opening-good b z = record {
   paid = held-none 32 (b .paid) (omega arith) (z .paid);
 }
 
-pub opening-keys : (b : Bufs) → keysOf noRows b ≡ noKeys
+pub opening-keys : (b : KeyBufs) → keysOf noRows b ≡ noKeys
 unfolding rows
 opening-keys b = refl

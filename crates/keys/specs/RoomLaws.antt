@@ -9,8 +9,8 @@ use lib.ListN.{length, drop, replicate}
 use lib.Seq.{drop-drop}
 use lib.Dec.{leb}
 use borrow.Author.Tests.{le-leb, lt-leb}
-use Rattle.words.specs.Choice.{bit}
-use Rattle.tables.specs.Rows.{Row, rows, insert, lookup, isSome}
+use Rattle.words.specs.Choice.{bit, isSome}
+use Rattle.tables.specs.Rows.{Row, rows, insert, lookup}
 use Rattle.tables.specs.Table.{Table, Inserted, storedOf}
 use Rattle.tables.specs.LayoutLaws.{rows-length}
 use Rattle.tables.specs.RowsTheorems.{length-insert}
@@ -18,7 +18,7 @@ use Rattle.tables.specs.TableTheorems.{inserted-table}
 use Rattle.tables.specs.declared.store.Stored.{Stored}
 use Rattle.tables.specs.declared.store.Stored.the-variants.{Count}
 use Rattle.keys.specs.Values.{putIf}
-use Rattle.keys.specs.Sound.{Held, Put, holds, countOr}
+use Rattle.keys.specs.Sound.{Held, PutIf, holds, countOr}
 
 -- ---- room for a key
 
@@ -58,7 +58,7 @@ module _ (w n : ℕ) (t : List ℕ) (tb : Table w n t) where
 -- ---- a row put in, if so told
 
 module _ (w n : ℕ) (t : List ℕ) (tb : Table w n t) (b : Bool) (x : Row) where
-  pub put-off : b ≡ false → Put w n n b x t t
+  pub put-off : b ≡ false → PutIf w n n b x t t
   put-off e = rw e (record { table = tb; are = refl; size = refl; rest = refl })
 
   module _ (u : List ℕ) (r : Stored) (lu : length u ≡ length t) (a : Inserted w n x t u r) (on : b ≡ true) (fit : holds w n b x t ≡ true) where
@@ -66,7 +66,7 @@ module _ (w n : ℕ) (t : List ℕ) (tb : Table w n t) (b : Bool) (x : Row) wher
     unfolding storedOf
     counted = let f : holds w n true x t ≡ true = rw on at fit in rw f at (a .answer)
 
-    pub put-on : (m : ℕ) → m ≡ countOr n r → Put w n m b x t u
+    pub put-on : (m : ℕ) → m ≡ countOr n r → PutIf w n m b x t u
     put-on m e =
         let q : r ≡ Count m = counted ∙ ap Count (sym (e ∙ ap (countOr n) counted)) in
         let i = subst (λ (o : Stored). Inserted w n x t u o) q a in
@@ -83,8 +83,8 @@ put-length : (b : Bool) (x : Row) (rs : List Row) → length rs ≤ length (putI
 put-length true x rs = omega (arith, length-insert x rs)
 put-length false x rs = omega arith
 
-pub held-put : (w n m : ℕ) (b : Bool) (x : Row) (t u : List ℕ) → Held w n t → Put w n m b x t u → Held w m u
-held-put w n m b x t u h p =
+pub held-put : {w n m : ℕ} {b : Bool} {x : Row} {t u : List ℕ} → Held w n t → PutIf w n m b x t u → Held w m u
+held-put {w} {n} {m} {b} {x} {t} {u} h p =
     let lm : length (rows w m u) ≡ m = rows-length w m u in
     let ln : length (rows w n t) ≡ n = rows-length w n t in
     let k : n ≤ m = omega (arith, put-length b x (rows w n t), ap length (p .are)) in

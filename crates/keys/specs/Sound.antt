@@ -11,12 +11,12 @@ use Rattle.tables.specs.declared.store.Stored.{Stored}
 use Rattle.tables.specs.declared.store.Stored.the-variants.{Count, NoRoom}
 use Rattle.keys.specs.Known.{Keys}
 use Rattle.keys.specs.Values.{putIf}
-use Rattle.keys.specs.Lent.{Bufs, keysOf}
+use Rattle.keys.specs.Lent.{KeyBufs, keysOf}
 use Rattle.keys.specs.declared.counts.Counts.{Counts}
 
 -- the loader's table is sorted, if there is a loader
 abbrev pub Loader : Bool → ℕ → List ℕ → Type 0
-Loader present n t = present ≡ true → Table 40 n t
+Loader «has_loader» n t = «has_loader» ≡ true → Table 40 n t
 
 -- n sorted rows stand in t, and zeroes after them
 pub record Held (w n : ℕ) (t : List ℕ) : Type 0 where
@@ -24,7 +24,7 @@ pub record Held (w n : ℕ) (t : List ℕ) : Type 0 where
   pub rest : drop (n * w) t ≡ replicate (length t - n * w) 0
 
 -- every table is sorted, within its bytes, and zero after its rows
-pub record Good (c : Counts) (b : Bufs) : Type 0 where
+pub record Good (c : Counts) (b : KeyBufs) : Type 0 where
   pub changes : Held 40 (c .changes) (b .changes)
   pub fetched : Held 40 (c .fetched) (b .fetched)
   pub may-read : Held 32 (c .reads) (b .may-read)
@@ -41,13 +41,13 @@ countOr n (Count m) = m
 countOr n NoRoom = n
 
 -- m rows stand in u, where n stood in t: with a row put in, if so told, and what lies past them as it was
-pub record Put (w n m : ℕ) (b : Bool) (x : Row) (t u : List ℕ) : Type 0 where
+pub record PutIf (w n m : ℕ) (b : Bool) (x : Row) (t u : List ℕ) : Type 0 where
   pub table : Table w m u
   pub are : rows w m u ≡ putIf b x (rows w n t)
   pub size : length u ≡ length t
   pub rest : drop (m * w) u ≡ drop (m * w) t
 
 -- what a step leaves: the keys that its rule says, in tables as good as before
-pub record Leaves (want : Keys) (c : Counts) (b : Bufs) : Type 0 where
+pub record Leaves (want : Keys) (c : Counts) (b : KeyBufs) : Type 0 where
   pub are : keysOf c b ≡ want
   pub good : Good c b

@@ -6,7 +6,7 @@ use lib.ListN.{length}
 use Rattle.words.specs.Choice.{pick, both, either, bit}
 use Rattle.words.specs.Lists.{member}
 use Rattle.tables.specs.Rows.{insert}
-use Rattle.keys.specs.Known.{Env, Keys, Rooms}
+use Rattle.keys.specs.Known.{KeyEnv, Keys, Rooms}
 use Rattle.keys.specs.Values.{row, has, putIf, look, fetchedWith}
 
 -- every table within its bytes
@@ -21,7 +21,7 @@ fits r s =
 -- ---- loading a key
 
 -- a value that came from the loader is remembered
-unfoldable pub loaded : Env → Keys → ℕ → Keys
+unfoldable pub loaded : KeyEnv → Keys → ℕ → Keys
 loaded e s k = record {
   changes = s .changes;
   fetched = fetchedWith (look e s k) k (s .fetched);
@@ -37,7 +37,7 @@ unfoldable pub paysFresh : (v prior : ℕ) (paid authorised : Bool) (dirty : ℕ
 paysFresh v prior paid authorised dirty = both (not (eqb v 0)) (both (eqb prior 0) (both (not paid) (either authorised (leb 8 dirty))))
 
 -- so for a key of a run
-unfoldable pub freshAt : Env → Keys → (k v : ℕ) → Bool
+unfoldable pub freshAt : KeyEnv → Keys → (k v : ℕ) → Bool
 freshAt e s k v = paysFresh v (look e s k .value) (has k (s .paid)) (has k (s .may-write)) (length (s .changes))
 
 -- 227000 as fresh; otherwise 227000 for a key newly dirty that makes more than 8
@@ -45,11 +45,11 @@ unfoldable pub storePrice : (fresh dirty : Bool) (count : ℕ) → ℕ
 storePrice fresh dirty count = pick fresh 227000 (pick dirty 0 (pick (leb 8 count) 227000 0))
 
 -- so for a key of a run
-unfoldable pub storePriceAt : Env → Keys → (k v : ℕ) → ℕ
+unfoldable pub storePriceAt : KeyEnv → Keys → (k v : ℕ) → ℕ
 storePriceAt e s k v = storePrice (freshAt e s k v) (has k (s .changes)) (length (s .changes))
 
 -- the value stands in changes; a key that pays as fresh has paid
-unfoldable pub stored : Env → Keys → (k v : ℕ) → Keys
+unfoldable pub stored : KeyEnv → Keys → (k v : ℕ) → Keys
 stored e s k v = record {
   changes = insert (row k v) (s .changes);
   fetched = fetchedWith (look e s k) k (s .fetched);
@@ -61,7 +61,7 @@ stored e s k v = record {
 -- ---- authorising a key made from a base
 
 -- the base is declared keyed; a keyed write gives both lists
-unfoldable pub keyed : Env → ℕ → Bool
+unfoldable pub keyed : KeyEnv → ℕ → Bool
 keyed e base = either (member base (e .keyed-writes)) (member base (e .keyed-reads))
 
 -- 948 unless the key is authorised already
@@ -77,11 +77,11 @@ unfoldable pub keyBytes : (write written read : Bool) → ℕ
 keyBytes write written read = 32 * (bit (both write (not written)) + bit (not read))
 
 -- so for a key of a run
-unfoldable pub keyBytesAt : Env → Keys → (base k : ℕ) → ℕ
+unfoldable pub keyBytesAt : KeyEnv → Keys → (base k : ℕ) → ℕ
 keyBytesAt e s base k = keyBytes (member base (e .keyed-writes)) (has k (s .may-write)) (has k (s .may-read))
 
 -- readable, and writable if the base is a keyed write
-unfoldable pub authorised : Env → Keys → (base k : ℕ) → Keys
+unfoldable pub authorised : KeyEnv → Keys → (base k : ℕ) → Keys
 authorised e s base k = record {
   changes = s .changes;
   fetched = s .fetched;

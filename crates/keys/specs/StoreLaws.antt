@@ -7,11 +7,11 @@ use Rattle.words.specs.Choice.{both}
 use Rattle.words.specs.ChoiceLaws.{both-left, both-right}
 use Rattle.tables.specs.Rows.{rows}
 use Rattle.tables.specs.LayoutLaws.{rows-length}
-use Rattle.keys.specs.Known.{Env, Keys}
+use Rattle.keys.specs.Known.{KeyEnv, Keys}
 use Rattle.keys.specs.Values.{row, has, look, lookIn, fetchedWith}
 use Rattle.keys.specs.Steps.{fits, paysFresh, freshAt, storePrice, storePriceAt, stored}
-use Rattle.keys.specs.Lent.{Bufs, Given, bufs, loaderOf, envOf, keysOf, roomsOf}
-use Rattle.keys.specs.Sound.{Good, Put, Leaves, holds}
+use Rattle.keys.specs.Lent.{KeyBufs, Given, keyBufs, loaderOf, keyEnvOf, keysOf, roomsOf}
+use Rattle.keys.specs.Sound.{Good, PutIf, Leaves, holds}
 use Rattle.keys.specs.StorePlans.{storePlan, storeFits, StoreReady}
 use Rattle.keys.specs.RoomLaws.{table-fits, held-put}
 use Rattle.keys.specs.declared.counts.Counts.{Counts}
@@ -19,9 +19,9 @@ use Rattle.keys.specs.declared.look.Look.{Look}
 use Rattle.keys.specs.declared.look.TableRows.{TableRows}
 use Rattle.keys.specs.declared.store.StorePlan.{StorePlan}
 
-module _ (l : TableRows) (g : Given) (c : Counts) (b : Bufs) (ok : Good c b) (k v : ℕ) where
-  abbrev e : Env
-  e = envOf l g
+module _ (l : TableRows) (g : Given) (c : Counts) (b : KeyBufs) (ok : Good c b) (k v : ℕ) where
+  abbrev e : KeyEnv
+  e = keyEnvOf l g
 
   abbrev s : Keys
   s = keysOf c b
@@ -36,7 +36,7 @@ module _ (l : TableRows) (g : Given) (c : Counts) (b : Bufs) (ok : Good c b) (k 
   -- the parts of a plan
   module _ (seen : Look) (fresh room : Bool) (price : ℕ)
       (qs : seen ≡ lookIn (rows 40 (c .changes) (b .changes)) (rows 40 (l .store) (g .store)) (rows 40 (c .fetched) (b .fetched))
-      (loaderOf (l .present) (rows 40 (l .loader) (g .loader))) k)
+      (loaderOf (l .«has_loader») (rows 40 (l .loader) (g .loader))) k)
       (qf : fresh ≡ paysFresh v (seen .value) (has k (rows 32 (c .paid) (b .paid))) (has k (rows 32 (c .writes) (b .may-write))) (c .changes))
       (qp : price ≡ storePrice fresh (has k (rows 40 (c .changes) (b .changes))) (c .changes))
       (qr : room ≡ storeFits c k v seen fresh (b .changes) (b .fetched) (b .paid)) where
@@ -87,20 +87,20 @@ module _ (l : TableRows) (g : Given) (c : Counts) (b : Bufs) (ok : Good c b) (k 
           paid-fit = both-right y z h;
         }
 
-    module _ (nc nf np : ℕ) (uc uf up : List ℕ) (pc : Put 40 (c .changes) nc true (row k v) (b .changes) uc)
-        (pf : Put 40 (c .fetched) nf (p .look .came) (row k (p .look .value)) (b .fetched) uf)
-        (pp : Put 32 (c .paid) np (p .fresh) (row k 0) (b .paid) up) where
+    module _ (nc nf np : ℕ) (uc uf up : List ℕ) (pc : PutIf 40 (c .changes) nc true (row k v) (b .changes) uc)
+        (pf : PutIf 40 (c .fetched) nf (p .look .came) (row k (p .look .value)) (b .fetched) uf)
+        (pp : PutIf 32 (c .paid) np (p .fresh) (row k 0) (b .paid) up) where
       pub stored-so : Leaves (stored e s k v)
           (record { changes = nc; fetched = nf; reads = c .reads; writes = c .writes; paid = np })
-          (bufs uc uf (b .may-read) (b .may-write) up)
+          (keyBufs uc uf (b .may-read) (b .may-write) up)
       unfolding stored fetchedWith
       stored-so = record {
         are = rw (seen-is, pays-is, pc .are, pf .are, pp .are);
         good = record {
-          changes = held-put _ _ _ _ _ _ _ (ok .changes) pc;
-          fetched = held-put _ _ _ _ _ _ _ (ok .fetched) pf;
+          changes = held-put (ok .changes) pc;
+          fetched = held-put (ok .fetched) pf;
           may-read = ok .may-read;
           may-write = ok .may-write;
-          paid = held-put _ _ _ _ _ _ _ (ok .paid) pp;
+          paid = held-put (ok .paid) pp;
         };
       }

@@ -3,10 +3,10 @@ use mathlib.Core.Bool.{Bool, true, false}
 use mathlib.Core.List.{List}
 use mathlib.Core.Option.{Option, some, none}
 use Prim.Native.Nat.{ℕ}
-use Rattle.words.specs.Choice.{pick, either}
+use Rattle.words.specs.Choice.{pick, either, isSome}
 use Rattle.words.specs.Lists.{member}
-use Rattle.tables.specs.Rows.{Row, lookup, insert, isSome}
-use Rattle.keys.specs.Known.{Env, Keys}
+use Rattle.tables.specs.Rows.{Row, lookup, insert}
+use Rattle.keys.specs.Known.{KeyEnv, Keys}
 use Rattle.keys.specs.declared.look.Look.{Look}
 
 -- a key with a value
@@ -49,7 +49,7 @@ unfoldable pub lookIn : (changes store fetched : List Row) → Option (List Row)
 lookIn cs ss fs ls k = firstOf (lookup k cs) (firstOf (lookup k ss) (firstOf (lookup k fs) (fromLoader ls k)))
 
 -- so for a key of a run
-unfoldable pub look : Env → Keys → ℕ → Look
+unfoldable pub look : KeyEnv → Keys → ℕ → Look
 look e s k = lookIn (s .changes) (e .store) (s .fetched) (e .loader) k
 
 -- a value that came from the loader is remembered

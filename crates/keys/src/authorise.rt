@@ -9,7 +9,7 @@ ghost use Rattle.words.specs.Choice.{both, either, bit};
 ghost use Rattle.words.specs.Lists.{member};
 ghost use Rattle.tables.specs.Table.{Table};
 ghost use Rattle.keys.specs.Steps.{keyPrice, keyBytes};
-ghost use Rattle.keys.specs.Lent.{Given, bufs, given};
+ghost use Rattle.keys.specs.Lent.{Given, keyBufs, given};
 ghost use Rattle.keys.specs.KeyPlans.{keyFits, KeyReady, PlansKey, Authorises};
 ghost use Rattle.keys.specs.declared.look.TableRows.{TableRows};
 use crate::counts::Counts;
@@ -24,13 +24,13 @@ pub struct KeyPlan {
 }
 
 // Whether a base is declared keyed: for writing, or among the reads.
-fn is_keyed(write: bool, kreads: &[u8], base: u64) -> bool
-    ensures { λ r. ⌜ r ≡ either write (member base (wordsIn (now (kreads .entry)))) ⌝ }
+fn is_keyed(write: bool, keyed_reads: &[u8], base: u64) -> bool
+    ensures { λ r. ⌜ r ≡ either write (member base (wordsIn (now («keyed_reads» .entry)))) ⌝ }
 {
     if write {
         return true;
     }
-    crate::slots::listed(kreads, base)
+    crate::slots::listed(keyed_reads, base)
 }
 
 // What it costs to authorise a key that stands in either list, or in none.
@@ -80,8 +80,8 @@ fn key_room(c: Counts, readable: &[u8], writable: &[u8], key: &[u8], write: bool
 // What authorising a key made from a base comes to. Changes nothing.
 pub fn plan_authorise(
     c: Counts,
-    kreads: &[u8],
-    kwrites: &[u8],
+    keyed_reads: &[u8],
+    keyed_writes: &[u8],
     readable: &[u8],
     writable: &[u8],
     base: u64,
@@ -89,11 +89,11 @@ pub fn plan_authorise(
 ) -> KeyPlan
     requires { ⌜ Table 32 (c .reads) (now readable) × Table 32 (c .writes) (now writable) × (length (now key) ≡ 32) ⌝ }
     ensures { λ r. ⌜ ((l : TableRows) (rd wr st ld ch fe pd : List ℕ) →
-        PlansKey l (given rd wr (now (kreads .entry)) (now (kwrites .entry)) st ld) c
-        (bufs ch fe (now (readable .entry)) (now (writable .entry)) pd) base (num (now (key .entry))) r) ⌝ }
+        PlansKey l (given rd wr (now («keyed_reads» .entry)) (now («keyed_writes» .entry)) st ld) c
+        (keyBufs ch fe (now (readable .entry)) (now (writable .entry)) pd) base (num (now (key .entry))) r) ⌝ }
 {
-    let write = crate::slots::listed(kwrites, base);
-    let keyed = is_keyed(write, kreads, base);
+    let write = crate::slots::listed(keyed_writes, base);
+    let keyed = is_keyed(write, keyed_reads, base);
     let written = tables::rows::has(writable, c.writes, 32, key);
     let read = tables::rows::has(readable, c.reads, 32, key);
     let price = key_price(written, read);
@@ -119,8 +119,8 @@ pub fn authorise(
     requires { ⌜ KeyReady c plan (num (now key)) (now readable) (now writable) × (length (now key) ≡ 32) ⌝ }
     ensures { λ r. ⌜ ((l : TableRows) (g : Given) (base : ℕ) (ch fe pd : List ℕ) →
         Authorises l g base (num (now (key .entry))) plan c r
-        (bufs ch fe (now (readable .entry)) (now (writable .entry)) pd)
-        (bufs ch fe (now (readable .exit)) (now (writable .exit)) pd)) ⌝ }
+        (keyBufs ch fe (now (readable .entry)) (now (writable .entry)) pd)
+        (keyBufs ch fe (now (readable .exit)) (now (writable .exit)) pd)) ⌝ }
 {
     let mut d = c;
     d.reads = crate::room::add_if(readable, c.reads, key, true);

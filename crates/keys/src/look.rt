@@ -18,16 +18,16 @@ pub struct Look {
 // How many rows stand in the lent tables: the store, and the loader if there is one.
 pub struct TableRows {
     pub store: usize,
-    pub present: bool,
+    pub has_loader: bool,
     pub loader: usize,
 }
 
 // The loader's value at a key: 0 if it does not have it, or there is none.
-fn fetch(present: bool, loader: &[u8], n: usize, key: &[u8]) -> Look
-    requires { ⌜ Loader present n (now loader) × (length (now key) ≡ 32) ⌝ }
-    ensures { λ r. ⌜ r ≡ fromLoader (loaderOf present (rows 40 n (now (loader .entry)))) (num (now (key .entry))) ⌝ }
+fn fetch(has_loader: bool, loader: &[u8], n: usize, key: &[u8]) -> Look
+    requires { ⌜ Loader «has_loader» n (now loader) × (length (now key) ≡ 32) ⌝ }
+    ensures { λ r. ⌜ r ≡ fromLoader (loaderOf «has_loader» (rows 40 n (now (loader .entry)))) (num (now (key .entry))) ⌝ }
 {
-    if !present {
+    if !has_loader {
         return Look {
             value: 0,
             came: false,
@@ -58,9 +58,9 @@ pub fn look_up(
     key: &[u8],
 ) -> Look
     requires { ⌜ Table 40 nc (now changes) × Table 40 (lent .store) (now store) × Table 40 nf (now fetched)
-        × Loader (lent .present) (lent .loader) (now loader) × (length (now key) ≡ 32) ⌝ }
+        × Loader (lent .«has_loader») (lent .loader) (now loader) × (length (now key) ≡ 32) ⌝ }
     ensures { λ r. ⌜ r ≡ lookIn (rows 40 nc (now (changes .entry))) (rows 40 (lent .store) (now (store .entry))) (rows 40 nf (now (fetched .entry)))
-        (loaderOf (lent .present) (rows 40 (lent .loader) (now (loader .entry)))) (num (now (key .entry))) ⌝ }
+        (loaderOf (lent .«has_loader») (rows 40 (lent .loader) (now (loader .entry)))) (num (now (key .entry))) ⌝ }
 {
     let a = tables::rows::get(changes, nc, key);
     if let Got::Value(v) = a {
@@ -83,5 +83,5 @@ pub fn look_up(
             came: false,
         };
     }
-    fetch(lent.present, loader, lent.loader, key)
+    fetch(lent.has_loader, loader, lent.loader, key)
 }

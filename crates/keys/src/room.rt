@@ -6,7 +6,7 @@ ghost use lib.ListN.{length};
 ghost use Rattle.words.specs.Bytes.{num};
 ghost use Rattle.tables.specs.Table.{Table};
 ghost use Rattle.keys.specs.Values.{row};
-ghost use Rattle.keys.specs.Sound.{Put, holds, countOr};
+ghost use Rattle.keys.specs.Sound.{PutIf, holds, countOr};
 use tables::store::Stored;
 
 // Whether a key has room in its table, if it is to go in.
@@ -37,7 +37,7 @@ fn counted(s: Stored, n: usize) -> usize
 // Puts a value at a key that has room, if it is to go in.
 pub fn put_if(t: &mut [u8], n: usize, key: &[u8], v: u64, when: bool) -> usize
     requires { ⌜ Table 40 n (now t) × (length (now key) ≡ 32) × (holds 40 n when (row (num (now key)) v) (now t) ≡ true) ⌝ }
-    ensures { λ r. ⌜ Put 40 n r when (row (num (now (key .entry))) v) (now (t .entry)) (now (t .exit)) ⌝ }
+    ensures { λ r. ⌜ PutIf 40 n r when (row (num (now (key .entry))) v) (now (t .entry)) (now (t .exit)) ⌝ }
 {
     if !when {
         return n;
@@ -49,7 +49,7 @@ pub fn put_if(t: &mut [u8], n: usize, key: &[u8], v: u64, when: bool) -> usize
 // Puts a key in that has room, if it is to go in.
 pub fn add_if(t: &mut [u8], n: usize, key: &[u8], when: bool) -> usize
     requires { ⌜ Table 32 n (now t) × (length (now key) ≡ 32) × (holds 32 n when (row (num (now key)) 0) (now t) ≡ true) ⌝ }
-    ensures { λ r. ⌜ Put 32 n r when (row (num (now (key .entry))) 0) (now (t .entry)) (now (t .exit)) ⌝ }
+    ensures { λ r. ⌜ PutIf 32 n r when (row (num (now (key .entry))) 0) (now (t .entry)) (now (t .exit)) ⌝ }
 {
     if !when {
         return n;

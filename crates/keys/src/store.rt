@@ -8,7 +8,7 @@ ghost use Rattle.tables.specs.Rows.{rows};
 ghost use Rattle.tables.specs.Table.{Table};
 ghost use Rattle.keys.specs.Values.{has};
 ghost use Rattle.keys.specs.Steps.{paysFresh, storePrice};
-ghost use Rattle.keys.specs.Lent.{Given, bufs, given};
+ghost use Rattle.keys.specs.Lent.{Given, keyBufs, given};
 ghost use Rattle.keys.specs.Sound.{Loader};
 ghost use Rattle.keys.specs.StorePlans.{storeFits, StoreReady, PlansStore, Stores};
 ghost use Rattle.keys.specs.declared.look.TableRows.{TableRows};
@@ -98,12 +98,12 @@ pub fn plan_store(
     key: &[u8],
     v: u64,
 ) -> StorePlan
-    requires { ⌜ Table 40 (lent .store) (now store) × Loader (lent .present) (lent .loader) (now loader)
+    requires { ⌜ Table 40 (lent .store) (now store) × Loader (lent .«has_loader») (lent .loader) (now loader)
         × Table 40 (c .changes) (now changes) × Table 40 (c .fetched) (now fetched)
         × Table 32 (c .writes) (now writable) × Table 32 (c .paid) (now paid) × (length (now key) ≡ 32) ⌝ }
     ensures { λ r. ⌜ ((rd wr kr kw mr : List ℕ) →
         PlansStore lent (given rd wr kr kw (now (store .entry)) (now (loader .entry))) c
-        (bufs (now (changes .entry)) (now (fetched .entry)) mr (now (writable .entry)) (now (paid .entry)))
+        (keyBufs (now (changes .entry)) (now (fetched .entry)) mr (now (writable .entry)) (now (paid .entry)))
         (num (now (key .entry))) v r) ⌝ }
 {
     let l = crate::look::look_up(
@@ -140,8 +140,8 @@ pub fn store(
     requires { ⌜ StoreReady c plan (num (now key)) v (now changes) (now fetched) (now paid) × (length (now key) ≡ 32) ⌝ }
     ensures { λ r. ⌜ ((l : TableRows) (g : Given) (mr mw : List ℕ) →
         Stores l g (num (now (key .entry))) v plan c r
-        (bufs (now (changes .entry)) (now (fetched .entry)) mr mw (now (paid .entry)))
-        (bufs (now (changes .exit)) (now (fetched .exit)) mr mw (now (paid .exit)))) ⌝ }
+        (keyBufs (now (changes .entry)) (now (fetched .entry)) mr mw (now (paid .entry)))
+        (keyBufs (now (changes .exit)) (now (fetched .exit)) mr mw (now (paid .exit)))) ⌝ }
 {
     let l = plan.look;
     let mut d = c;

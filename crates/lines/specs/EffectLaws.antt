@@ -12,7 +12,7 @@ use Rattle.words.specs.Laid.{Laid}
 use Rattle.words.specs.BytesLaws.{length-beBytes}
 use Rattle.text.specs.Decimal.{fieldOf}
 use Rattle.text.specs.LaidLaws.{field-room, laid-next}
-use Rattle.effects.specs.Log.{Effect, Small, logOf}
+use Rattle.effects.specs.Log.{Effect, FitTrailers, logOf}
 use Rattle.effects.specs.LogLaws.{newest}
 use Rattle.effects.specs.Trailers.{trailerOf, EndingAt}
 use Rattle.effects.specs.declared.trailer.Trailer.{Trailer}
@@ -59,7 +59,7 @@ part-length log from n m e h =
 module _ (d log : List ℕ) (at : ℕ) (t : Trailer) (l : at ≤ length log) (b : EndingAt log at t) where
   -- of the newest effect, whatever effects the first bytes are the log of
   abbrev pub OfNewest : (Effect → Type 0) → Type 0
-  OfNewest P = (e : Effect) (es : List Effect) → Small (e ∷ es) → take at log ≡ logOf (e ∷ es) → P e
+  OfNewest P = (e : Effect) (es : List Effect) → FitTrailers (e ∷ es) → take at log ≡ logOf (e ∷ es) → P e
 
   abbrev bytes : List ℕ
   bytes = take (t .length) (drop (t .from) log)

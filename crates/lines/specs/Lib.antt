@@ -1,10 +1,13 @@
+-- definitions
 pub mod Names
-pub mod NameLaws
 pub mod VerdictLine
-pub mod VerdictLaws
 pub mod AnswerLines
-pub mod AnswerLaws
 pub mod EffectLines
+-- laws
+pub mod NameLaws
+pub mod VerdictLaws
+pub mod AnswerLaws
 pub mod EffectLaws
 pub mod NewestLaws
+-- theorems
 pub mod CaseTheorems

@@ -5,14 +5,14 @@ use Prim.Native.Nat.{ℕ, _+_, _-_, _≤_, _<_}
 use native.Mathlib.Omega.{arith}
 use lib.ListN.{length, take, drop, drop-of-length-le}
 use lib.Seq.{drop-drop, length-take-le}
-use Rattle.effects.specs.Log.{Effect, Small, logOf}
+use Rattle.effects.specs.Log.{Effect, FitTrailers, logOf}
 use Rattle.effects.specs.LogLaws.{log-none, newest}
 use Rattle.effects.specs.Trailers.{trailerOf, EndingAt}
 use Rattle.effects.specs.declared.trailer.Trailer.{Trailer}
 
 -- whatever effects a log has, its first `at` bytes are the log of all but the i newest
 pub record BeforeNewest (log : List ℕ) (end at i : ℕ) : Type 0 where
-  pub left : (es : List Effect) → Small es → take end log ≡ logOf es → Small (drop i es) × (take at log ≡ logOf (drop i es))
+  pub left : (es : List Effect) → FitTrailers es → take end log ≡ logOf es → FitTrailers (drop i es) × (take at log ≡ logOf (drop i es))
 
 pub before-none : (log : List ℕ) (end : ℕ) → BeforeNewest log end end 0
 before-none log end = record { left = λ es s q. (s, q) }
@@ -23,16 +23,16 @@ unfolding trailerOf logOf
 before-one log end at i t h l b w = record {
   left = λ es s q.
       let (sm, by) = w .left es s q in
-      subst (λ (os : List Effect). Small os × (take (t .from) log ≡ logOf os)) (drop-drop 1 i es) (go (drop i es) sm by);
+      subst (λ (os : List Effect). FitTrailers os × (take (t .from) log ≡ logOf os)) (drop-drop 1 i es) (go (drop i es) sm by);
 }
   where
-    go : (os : List Effect) → Small os → take at log ≡ logOf os → Small (drop 1 os) × (take (t .from) log ≡ logOf (drop 1 os))
+    go : (os : List Effect) → FitTrailers os → take at log ≡ logOf os → FitTrailers (drop 1 os) × (take (t .from) log ≡ logOf (drop 1 os))
     go [] sm by = absurd (omega (arith, length-take-le at log l, ap length by))
     go (e ∷ os) sm by = (sm .2, ap (λ (u : Trailer). take (u .from) log) (b .told e os sm by) ∙ newest log at e os l sm by .front)
 
 -- with nothing left, no more is taken away
 pub before-all : (log : List ℕ) (end at i k : ℕ) → at ≡ 0 → i ≤ k → BeforeNewest log end at i →
-    (es : List Effect) → Small es → take end log ≡ logOf es → take 0 log ≡ logOf (drop k es)
+    (es : List Effect) → FitTrailers es → take end log ≡ logOf es → take 0 log ≡ logOf (drop k es)
 unfolding logOf
 before-all log end at i k z h w es s q =
     let (sm, by) = w .left es s q in

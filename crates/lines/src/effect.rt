@@ -4,7 +4,7 @@ ghost use mathlib.Core.List.{List, _∷_};
 ghost use Prim.Native.Nat.{_+_, _*_, _≤_, _<_};
 ghost use lib.ListN.{length, take, drop};
 ghost use Rattle.words.specs.Laid.{Laid};
-ghost use Rattle.effects.specs.Log.{Effect, Small, logOf};
+ghost use Rattle.effects.specs.Log.{Effect, FitTrailers, logOf};
 ghost use Rattle.text.specs.Hex.{hexOf};
 ghost use Rattle.lines.specs.EffectLines.{transferLine, selectorOf, eventLine, lineWithin};
 use text::decimal::field;
@@ -46,7 +46,7 @@ fn event_line(out: &mut [u8], word: u64, bytes: &[u8]) -> usize
 // The line of the effect whose record ends at a place of a log; nothing where the output is too short for it.
 pub fn effect_line(out: &mut [u8], log: &[u8], at: usize) -> usize
     requires { ⌜ (0 < at) × (at ≤ length (now log)) ⌝ }
-    ensures { λ r. ⌜ ((e : Effect) (es : List Effect) → Small (e ∷ es) → take at (now (log .entry)) ≡ logOf (e ∷ es) →
+    ensures { λ r. ⌜ ((e : Effect) (es : List Effect) → FitTrailers (e ∷ es) → take at (now (log .entry)) ≡ logOf (e ∷ es) →
         Laid (now (out .entry)) 0 (lineWithin (length (now (out .entry))) e) (now (out .exit)) r) ⌝ }
 {
     let t = effects::trailer::record_ending_at(log, at);
@@ -67,7 +67,7 @@ pub fn effect_line(out: &mut [u8], log: &[u8], at: usize) -> usize
 // Where a log of so many bytes ends without its k newest records.
 pub fn end_before_newest(log: &[u8], end: usize, k: usize) -> usize
     requires { ⌜ end ≤ length (now log) ⌝ }
-    ensures { λ r. ⌜ (r ≤ end) × ((es : List Effect) → Small es → take end (now (log .entry)) ≡ logOf es →
+    ensures { λ r. ⌜ (r ≤ end) × ((es : List Effect) → FitTrailers es → take end (now (log .entry)) ≡ logOf es →
         take r (now (log .entry)) ≡ logOf (drop k es)) ⌝ }
 {
     let mut at = end;

@@ -19,13 +19,13 @@ pub record Grant : Type 0 where
   pub key : ℕ
 
 -- the 32 bytes at the output, if the base is declared keyed and they are in memory
-unfoldable pub grantOf : known.Env → Option ℕ → (out : ℕ) → (memory : List ℕ) → Option Grant
+unfoldable pub grantOf : known.KeyEnv → Option ℕ → (out : ℕ) → (memory : List ℕ) → Option Grant
 grantOf e none out mem = none
 grantOf e (some base) out mem =
     pick (both (keyed e base) (inside (length mem) out 32)) (some (record { base = base; key = num (take 32 (drop out mem)) })) none
 
 -- the base is read before the reply's bytes are written, the key after
-unfoldable pub grantAfter : List Reply → known.Env → Option ℕ → (out : ℕ) → (memory : List ℕ) → Option Grant
+unfoldable pub grantAfter : List Reply → known.KeyEnv → Option ℕ → (out : ℕ) → (memory : List ℕ) → Option Grant
 grantAfter [] e base out mem = none
 grantAfter (r ∷ rs) e base out mem = grantOf e base out (writtenAt mem (r .offset) (take (r .length) (r .bytes)))
 

@@ -38,7 +38,7 @@ use Rattle.machine.specs.declared.action.Check.the-variants as check
 
 -- ---- what is left of the keys
 
-unfoldable pub granted : known.Env → Keys → Option Grant → Keys
+unfoldable pub granted : known.KeyEnv → Keys → Option Grant → Keys
 granted e s none = s
 granted e s (some g) = authorised e s (g .base) (g .key)
 
@@ -46,21 +46,22 @@ unfoldable pub accessKeys : Env → Access → Machine → Keys
 accessKeys e (access.SLoad d a) m = loaded (e .keys) (m .keys) (keyAt m (reg (m .regs) a))
 accessKeys e (access.SStore a b) m = stored (e .keys) (m .keys) (keyAt m (reg (m .regs) a)) (reg (m .regs) b)
 
-unfoldable pub keysOf : Env → Action → Machine → Keys
-keysOf e action.Halt m = m .keys
-keysOf e action.Nop m = m .keys
-keysOf e action.Registers m = m .keys
-keysOf e (action.Moves o) m = m .keys
-keysOf e (action.Jumps o) m = m .keys
-keysOf e (action.Storage o) m = accessKeys e o m
-keysOf e (action.Posts o) m = m .keys
-keysOf e (action.Hash a b c) m = granted (e .keys) (m .keys) (grantBy e a b c m)
-keysOf e (action.Checks o) m = m .keys
+unfoldable pub keysAfter : Env → Action → Machine → Keys
+keysAfter e action.Halt m = m .keys
+keysAfter e action.Nop m = m .keys
+keysAfter e action.Registers m = m .keys
+keysAfter e (action.Moves o) m = m .keys
+keysAfter e (action.Jumps o) m = m .keys
+keysAfter e (action.Storage o) m = accessKeys e o m
+keysAfter e (action.Posts o) m = m .keys
+keysAfter e (action.Hash a b c) m = granted (e .keys) (m .keys) (grantBy e a b c m)
+keysAfter e (action.Checks o) m = m .keys
 
 -- ---- at the rule's end
 
 module _ (e : Env) (m : Machine) where
-  popped : (st : List ℕ) (k : ℕ → Machine → Rule) → ((v : ℕ) (p : Machine) → p .keys ≡ m .keys → leftBy (k v p) .keys ≡ m .keys) → leftBy (poppingFrom st (bare m) k) .keys ≡ m .keys
+  popped : (st : List ℕ) (k : ℕ → Machine → Rule) → ((v : ℕ) (p : Machine) → p .keys ≡ m .keys → leftBy (k v p) .keys ≡ m .keys) →
+      leftBy (poppingFrom st (bare m) k) .keys ≡ m .keys
   unfolding leftBy
   popped [] k f = refl
   popped (v ∷ st) k f = f v _ refl
@@ -102,7 +103,8 @@ module _ (e : Env) (m : Machine) where
   checked (check.MerkleVerify b) = answered (m .replies)
   checked check.Addr = answered (m .replies)
 
-  tainted : (base : Option ℕ) (out : ℕ) (p : Machine) → p .keys ≡ m .keys → leftBy (tainting e base out p) .keys ≡ granted (e .keys) (m .keys) (grantOf (e .keys) base out (p .memory))
+  tainted : (base : Option ℕ) (out : ℕ) (p : Machine) → p .keys ≡ m .keys →
+      leftBy (tainting e base out p) .keys ≡ granted (e .keys) (m .keys) (grantOf (e .keys) base out (p .memory))
   unfolding leftBy tainting grantOf granted authorising
   tainted none out p q = q
   tainted (some base) out p q = go (both (keyed (e .keys) base) (inside (length (p .memory)) out 32))
@@ -111,13 +113,14 @@ module _ (e : Env) (m : Machine) where
       go true = rw q
       go false = q
 
-  hashed : (base : Option ℕ) (out : ℕ) (rs : List Reply) → leftBy (askingOf rs (bare m) (tainting e base out)) .keys ≡ granted (e .keys) (m .keys) (grantAfter rs (e .keys) base out (m .memory))
+  hashed : (base : Option ℕ) (out : ℕ) (rs : List Reply) →
+      leftBy (askingOf rs (bare m) (tainting e base out)) .keys ≡ granted (e .keys) (m .keys) (grantAfter rs (e .keys) base out (m .memory))
   unfolding leftBy grantAfter granted
   hashed base out [] = refl
   hashed base out (r ∷ rs) = tainted base out (replied r (repliesTo (bare m) rs)) refl
 
-  pub keys-left : (i : Instr) (o : Action) → leftBy (actOf e i o (bare m)) .keys ≡ keysOf e o m
-  unfolding leftBy actOf keysOf accessKeys accessOf loading storing hashOf
+  pub keys-left : (i : Instr) (o : Action) → leftBy (actOf e i o (bare m)) .keys ≡ keysAfter e o m
+  unfolding leftBy actOf keysAfter accessKeys accessOf loading storing hashOf
   keys-left i action.Halt = refl
   keys-left i action.Nop = refl
   keys-left i action.Registers = refl

@@ -10,15 +10,15 @@ use Rattle.keys.specs.Lent as tables
 pub record Bufs : Type 0 where
   pub memory : List ℕ
   pub stack : List ℕ
-  pub keys : tables.Bufs
+  pub keys : tables.KeyBufs
   pub log : List ℕ
 
-abbrev pub bufs : (memory stack : List ℕ) → tables.Bufs → (log : List ℕ) → Bufs
+abbrev pub bufs : (memory stack : List ℕ) → tables.KeyBufs → (log : List ℕ) → Bufs
 bufs mem st ks log = record { memory = mem; stack = st; keys = ks; log = log }
 
 -- the same, with the key tables one by one
 abbrev pub lentTo : (memory stack changes fetched readable writable paid log : List ℕ) → Bufs
-lentTo memory stack changes fetched readable writable paid log = bufs memory stack (tables.bufs changes fetched readable writable paid) log
+lentTo memory stack changes fetched readable writable paid log = bufs memory stack (tables.keyBufs changes fetched readable writable paid) log
 
 -- n replies in bytes
 unfoldable pub repliesIn : ℕ → List ℕ → List Reply

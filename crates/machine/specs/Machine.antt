@@ -14,7 +14,7 @@ pub record Env : Type 0 where
   pub code : List ℕ
   pub consts : List ℕ
   pub starts : List ℕ
-  pub keys : known.Env
+  pub keys : known.KeyEnv
   pub limit : ℕ
   pub host : Host
   pub rooms : Rooms
@@ -35,7 +35,19 @@ pub record Machine : Type 0 where
   pub fetches : ℕ
 
 abbrev pub machine : RegFile → (memory stack : List ℕ) (pc : ℕ) → Keys → List Effect → (posted keyed : ℕ) → List Reply → (used fetches : ℕ) → Machine
-machine f mem st pc ks es po kd rs u n = record { regs = f; memory = mem; stack = st; pc = pc; keys = ks; effects = es; posted = po; keyed = kd; replies = rs; used = u; fetches = n }
+machine f mem st pc ks es po kd rs u n = record {
+  regs = f;
+  memory = mem;
+  stack = st;
+  pc = pc;
+  keys = ks;
+  effects = es;
+  posted = po;
+  keyed = kd;
+  replies = rs;
+  used = u;
+  fetches = n;
+}
 
 -- ---- a machine with one part changed
 

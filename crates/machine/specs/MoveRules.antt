@@ -28,4 +28,5 @@ moveOf e (Ldc d k) m = need (ltb k (length (e .consts))) 8 (next (regTo m d (get
 moveOf e (Push a) m = pushing m (reg (m .regs) a) next
 moveOf e (Pop d) m = popping m (λ v p. next (regTo p d v))
 moveOf e (MLoad d a) m = need (inside (length (m .memory)) (reg (m .regs) a) 8) 6 (next (regTo m d (num (take 8 (drop (reg (m .regs) a) (m .memory))))))
-moveOf e (MStore a b) m = need (inside (length (m .memory)) (reg (m .regs) a) 8) 6 (next (memoryTo m (storedAt (m .memory) (reg (m .regs) a) (reg (m .regs) b))))
+moveOf e (MStore a b) m =
+    need (inside (length (m .memory)) (reg (m .regs) a) 8) 6 (next (memoryTo m (storedAt (m .memory) (reg (m .regs) a) (reg (m .regs) b))))

@@ -20,18 +20,18 @@ Passed (pass k r) = (k ≡ 0) × Passed r
 Passed (pay p r) = Passed r
 
 -- p is the machine at the rule's end, with its bill used and that within the limit
-pub record After (l u n : ℕ) (r : Rule) (p : Machine) : Type 0 where
+pub record AtEnd (l u n : ℕ) (r : Rule) (p : Machine) : Type 0 where
   pub is : p ≡ metered (leftBy r) (u + bill r) n
   pub within : u ≤ l → u + bill r ≤ l
   pub passed : Passed r
 
 abbrev pub Keeps : (l u n : ℕ) → Rule → Step → Type 0
-Keeps l u n r (step.next p) = After l u n r p
-Keeps l u n r (step.halt p) = After l u n r p
+Keeps l u n r (step.next p) = AtEnd l u n r p
+Keeps l u n r (step.halt p) = AtEnd l u n r p
 Keeps l u n r (step.fault x) = 1 ≤ x .number
 
 -- a step keeps a rule's account if it keeps another's, where the accounts are alike
-keeps-as : (l u n v : ℕ) (r q : Rule) → ((p : Machine) → After l u n r p → After l v n q p) → (s : Step) → Keeps l u n r s → Keeps l v n q s
+keeps-as : (l u n v : ℕ) (r q : Rule) → ((p : Machine) → AtEnd l u n r p → AtEnd l v n q p) → (s : Step) → Keeps l u n r s → Keeps l v n q s
 keeps-as l u n v r q f (step.next p) h = f p h
 keeps-as l u n v r q f (step.halt p) h = f p h
 keeps-as l u n v r q f (step.fault x) h = h
@@ -40,11 +40,13 @@ pub keeps : (l u n : ℕ) (r : Rule) → Keeps l u n r (play l u n r)
 unfolding play bill leftBy
 keeps l u n (next m) = let z : u ≡ u + 0 = omega arith in record { is = ap (λ (x : ℕ). metered m x n) z; within = λ h. omega arith; passed = tt }
 keeps l u n (halt m) = let z : u ≡ u + 0 = omega arith in record { is = ap (λ (x : ℕ). metered m x n) z; within = λ h. omega arith; passed = tt }
-keeps l u n (pass zero r) = keeps-as l u n u r (pass zero r) (λ p h. record { is = h .is; within = h .within; passed = (refl, h .passed) }) (play l u n r) (keeps l u n r)
+keeps l u n (pass zero r) =
+    keeps-as l u n u r (pass zero r) (λ p h. record { is = h .is; within = h .within; passed = (refl, h .passed) }) (play l u n r) (keeps l u n r)
 keeps l u n (pass (suc k) r) = omega arith
 keeps l u n (pay x r) = go (leb (u + x) l) refl (keeps l (u + x) n r)
   where
-    go : (b : Bool) → leb (u + x) l ≡ b → Keeps l (u + x) n r (play l (u + x) n r) → Keeps l u n (pay x r) (pick b (play l (u + x) n r) (step.fault (refusal 1 0)))
+    go : (b : Bool) → leb (u + x) l ≡ b → Keeps l (u + x) n r (play l (u + x) n r) →
+        Keeps l u n (pay x r) (pick b (play l (u + x) n r) (step.fault (refusal 1 0)))
     go false q k = omega arith
     go true q k =
         let z : u + x + bill r ≡ u + (x + bill r) = omega arith in
@@ -71,6 +73,7 @@ pub pay-twice : (p q : ℕ) (r : Rule) → Same (pay p (pay q r)) (pay (p + q) r
 unfolding play
 pay-twice p q r = λ l u n. go l u n (leb (u + p) l) refl
   where
-    go : (l u n : ℕ) (t : Bool) → leb (u + p) l ≡ t → pick t (pick (leb (u + p + q) l) (play l (u + p + q) n r) (step.fault (refusal 1 0))) (step.fault (refusal 1 0)) ≡ play l u n (pay (p + q) r)
+    go : (l u n : ℕ) (t : Bool) → leb (u + p) l ≡ t →
+        pick t (pick (leb (u + p + q) l) (play l (u + p + q) n r) (step.fault (refusal 1 0))) (step.fault (refusal 1 0)) ≡ play l u n (pay (p + q) r)
     go l u n true h = let z : u + p + q ≡ u + (p + q) = omega arith in ap (λ (x : ℕ). pick (leb x l) (play l x n r) (step.fault (refusal 1 0))) z
     go l u n false h = rw (lt-leb (u + (p + q)) l (omega (arith, leb-false (u + p) l h)))

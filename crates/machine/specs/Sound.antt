@@ -5,7 +5,7 @@ use Prim.Native.Nat.{ℕ, zero, suc, _+_, _-_, _*_, _≤_, _<_}
 use lib.ListN.{length, take, drop, getD, replicate}
 use Rattle.keys.specs.Lent.{keysOf, roomsOf}
 use Rattle.keys.specs.Sound.{Good}
-use Rattle.effects.specs.Log.{Effect, Small, logOf}
+use Rattle.effects.specs.Log.{Effect, FitTrailers, logOf}
 use Rattle.effects.specs.ReadBack.{effectsOf}
 use Rattle.effects.specs.Counts.{events}
 use Rattle.meter.specs.declared.Meter.{Meter}
@@ -28,14 +28,14 @@ machineOf s r f b =
 -- a log's first n bytes are the log of small effects, and zeroes stand after them
 pub record Logged (n : ℕ) (log : List ℕ) : Type 0 where
   pub within : n ≤ length log
-  pub small : Small (effectsOf (take n log))
+  pub small : FitTrailers (effectsOf (take n log))
   pub is : take n log ≡ logOf (effectsOf (take n log))
   pub rest : drop n log ≡ replicate (length log - n) 0
 
 -- the events are those of the log's effects, no more than the bytes that are counted, and both totals are within their cap
 pub record Counted (count total entries : ℕ) (es : List Effect) : Type 0 where
   pub events : count ≡ events es
-  pub few : count ≤ total
+  pub no-more : count ≤ total
   pub posted : total ≤ 1048576
   pub keyed : entries ≤ 1048576
 

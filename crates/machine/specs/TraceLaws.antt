@@ -23,8 +23,8 @@ use Rattle.machine.specs.Steps.{Step, next, halt, fault}
 use Rattle.machine.specs.Actions.{actionOf}
 use Rattle.machine.specs.Rules.{need, play, bill}
 use Rattle.machine.specs.Turns.{ruleOf, stepOf, fetchOf, turnOf, End, halted, faulted, endOf, runOf}
-use Rattle.machine.specs.RuleLaws.{Passed, After, Keeps, keeps}
-use Rattle.machine.specs.KeysLaws.{keysOf, keys-left}
+use Rattle.machine.specs.RuleLaws.{Passed, AtEnd, Keeps, keeps}
+use Rattle.machine.specs.KeysLaws.{keysAfter, keys-left}
 use Rattle.machine.specs.CostLaws.{step-costs}
 use Rattle.machine.specs.Trace.{Took, fetchedFrom, took, stepsFrom, stepsOf}
 
@@ -39,10 +39,10 @@ pub record Finished (e : Env) (m : Machine) (i : Instr) (n : ℕ) (s : Step) (p 
   pub fetches : p .fetches ≡ suc (m .fetches)
   pub used : p .used ≡ basePaid m i + bill (ruleOf e i (fetchedFrom m i n))
   pub within : p .used ≤ e .limit
-  pub keys : p .keys ≡ keysOf e (actionOf i) (fetchedFrom m i n)
+  pub keys : p .keys ≡ keysAfter e (actionOf i) (fetchedFrom m i n)
 
 finished : (e : Env) (m : Machine) (i : Instr) (n : ℕ) (s : Step) (p : Machine) → basePaid m i ≤ e .limit → stepOf e i (fetchedFrom m i n) ≡ s
-    → After (e .limit) (basePaid m i) (suc (m .fetches)) (ruleOf e i (fetchedFrom m i n)) p → Finished e m i n s p
+    → AtEnd (e .limit) (basePaid m i) (suc (m .fetches)) (ruleOf e i (fetchedFrom m i n)) p → Finished e m i n s p
 unfolding ruleOf
 finished e m i n s p l q k =
     let u : p .used ≡ basePaid m i + bill (ruleOf e i (fetchedFrom m i n)) = ap (λ (x : Machine). x .used) (k .is) in
@@ -74,14 +74,16 @@ module _ (e : Env) (m : Machine) where
   unfolding fetchOf stepOf ruleOf play
   instructed i n = at-price (leb (basePaid m i) (e .limit)) refl (ltb (m .pc + n) 4294967296)
     where
-      stepped : basePaid m i ≤ e .limit → (s : Step) → stepOf e i (fetchedFrom m i n) ≡ s → Keeps (e .limit) (basePaid m i) (suc (m .fetches)) (ruleOf e i (fetchedFrom m i n)) s → TurnEnds e m (decoded.Done i n) s
+      stepped : basePaid m i ≤ e .limit → (s : Step) → stepOf e i (fetchedFrom m i n) ≡ s →
+          Keeps (e .limit) (basePaid m i) (suc (m .fetches)) (ruleOf e i (fetchedFrom m i n)) s → TurnEnds e m (decoded.Done i n) s
       stepped l (next p) q k = going i n p (finished e m i n (next p) p l q k)
       stepped l (halt p) q k = halting i n p (finished e m i n (halt p) p l q k)
       stepped l (fault w) q h = faulting i n w h
 
       at-price : (a : Bool) → leb (basePaid m i) (e .limit) ≡ a → (b : Bool)
           → TurnEnds e m (decoded.Done i n) (pick a (play (e .limit) (basePaid m i) (suc (m .fetches)) (need b 7 (ruleOf e i (fetchedFrom m i n)))) (fault (refusal 1 0)))
-      at-price true l true = stepped (leb-true (basePaid m i) (e .limit) l) (stepOf e i (fetchedFrom m i n)) refl (keeps (e .limit) (basePaid m i) (suc (m .fetches)) (ruleOf e i (fetchedFrom m i n)))
+      at-price true l true =
+          stepped (leb-true (basePaid m i) (e .limit) l) (stepOf e i (fetchedFrom m i n)) refl (keeps (e .limit) (basePaid m i) (suc (m .fetches)) (ruleOf e i (fetchedFrom m i n)))
       at-price true l false = faulting i n (refusal 7 0) (omega arith)
       at-price false l b = faulting i n (refusal 1 0) (omega arith)
 
@@ -96,22 +98,23 @@ module _ (e : Env) (m : Machine) where
 -- ---- a run
 
 -- from m it takes these steps and ends so
-pub data Runs (e : Env) : Machine → List Took → End → Type 0 where
-  faults : (m : Machine) (w : Refusal) → 1 ≤ w .number → Runs e m [] (faulted w (suc (m .fetches)))
-  halts : (m p : Machine) (i : Instr) (n : ℕ) → Finished e m i n (halt p) p → Runs e m (took m i n ∷ []) (halted p)
-  goes : (m p : Machine) (i : Instr) (n : ℕ) (ts : List Took) (end : End) → Finished e m i n (next p) p → Runs e p ts end → Runs e m (took m i n ∷ ts) end
+pub data Traced (e : Env) : Machine → List Took → End → Type 0 where
+  faults : (m : Machine) (w : Refusal) → 1 ≤ w .number → Traced e m [] (faulted w (suc (m .fetches)))
+  halts : (m p : Machine) (i : Instr) (n : ℕ) → Finished e m i n (halt p) p → Traced e m (took m i n ∷ []) (halted p)
+  goes : (m p : Machine) (i : Instr) (n : ℕ) (ts : List Took) (end : End) → Finished e m i n (next p) p → Traced e p ts end → Traced e m (took m i n ∷ ts) end
 
 -- a step that goes on uses 1 or more, and stays within the limit
 pub goes-uses : (e : Env) (m p : Machine) (i : Instr) (n : ℕ) → Finished e m i n (next p) p → (m .used < p .used) × (p .used ≤ e .limit)
 goes-uses e m p i n f = (omega (arith, f .used, step-costs e i (fetchedFrom m i n) p (f .step)), f .within)
 
 -- L - D + 1 turns are enough: every run ends by a turn of its own
-pub runs : (n : ℕ) (e : Env) (m : Machine) → e .limit - m .used < n → Runs e m (stepsOf n e m) (runOf n e m)
+pub runs : (n : ℕ) (e : Env) (m : Machine) → e .limit - m .used < n → Traced e m (stepsOf n e m) (runOf n e m)
 unfolding runOf stepsOf stepsFrom endOf
 runs zero e m h = absurd (omega (arith, h))
 runs (suc n) e m h = go (decodeAt (e .code) (m .pc)) (turnOf e m) (turned e m) (λ p. runs n e p)
   where
-    go : (d : Decoded) (s : Step) → TurnEnds e m d s → ((p : Machine) → e .limit - p .used < n → Runs e p (stepsOf n e p) (runOf n e p)) → Runs e m (stepsFrom d m s (stepsOf n e)) (endOf s (suc (m .fetches)) (runOf n e))
+    go : (d : Decoded) (s : Step) → TurnEnds e m d s → ((p : Machine) → e .limit - p .used < n → Traced e p (stepsOf n e p) (runOf n e p)) →
+        Traced e m (stepsFrom d m s (stepsOf n e)) (endOf s (suc (m .fetches)) (runOf n e))
     go d s (unread x w z) more = faults m w z
     go d s (faulting i j w z) more = faults m w z
     go d s (halting i j p f) more = halts m p i j f

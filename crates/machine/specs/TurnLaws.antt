@@ -112,12 +112,14 @@ module _ {e : Env} {s : List ℕ} {d : ℕ} {r : Run} {b : Bufs} (so : Sound e s
 
 -- a price, then the rest of the rule; g: the machine's registers
 module _ {e : Env} {s : List ℕ} {d : ℕ} {f : RegFile} (g : RegFile) {r : Run} {b : Bufs} (so : Sound e s d r b) {p : ℕ} {x : Paid} (h : x ≡ paidBy r p) (rest : Machine → Rule) where
-  pub paid-on : {q : Run} {t : Turn} {a : Bufs} → x ≡ paid.Done q → (Sound e s d q b → Played e s d f (q .meter .used) (q .fetches) (rest (bare (machineOf s q g b))) t a)
+  pub paid-on : {q : Run} {t : Turn} {a : Bufs} → x ≡ paid.Done q →
+      (Sound e s d q b → Played e s d f (q .meter .used) (q .fetches) (rest (bare (machineOf s q g b))) t a)
       → Played e s d f (r .meter .used) (r .fetches) (pay p (rest (bare (machineOf s r g b)))) t a
   unfolding machineOf
   paid-on j on = let w = pays-on so p h j in pay-on (w .passed) (rw (w .is) at (on (w .sound)))
 
-  pub paid-off : {o : Run} {a : Bufs} → x ≡ paid.OutOfMeter → Played e s d f (r .meter .used) (r .fetches) (pay p (rest (bare (machineOf s r g b)))) (stops o 1) a
+  pub paid-off : {o : Run} {a : Bufs} → x ≡ paid.OutOfMeter →
+      Played e s d f (r .meter .used) (r .fetches) (pay p (rest (bare (machineOf s r g b)))) (stops o 1) a
   paid-off j = pay-stops (pays-not so p h j)
 
 -- the run that a payment leaves differs in its meter alone

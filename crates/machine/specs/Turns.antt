@@ -32,7 +32,7 @@ operated s m = pass (s .fault) (next (regsTo m (s .file)))
 unfoldable pub actOf : Env → Instr → Action → Machine → Rule
 actOf e i action.Halt m = halt m
 actOf e i action.Nop m = next m
-actOf e i action.Registers m = operated (regs.stepOf i (m .regs)) m
+actOf e i action.Registers m = operated (regs.registerStep i (m .regs)) m
 actOf e i (action.Moves o) m = moveOf e o m
 actOf e i (action.Jumps o) m = jumpOf e o m
 actOf e i (action.Storage o) m = accessOf e o m

@@ -1,8 +1,11 @@
+-- definitions
 pub mod Opening
+-- what the code claims
 pub mod Opened
 pub mod Parts
+-- laws
 pub mod TableLaws
-pub mod OnlyLaws
+pub mod UniqueLaws
 pub mod StartLaws
 pub mod StandingLaws
 pub mod SizeLaws

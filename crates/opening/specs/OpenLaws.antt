@@ -17,20 +17,21 @@ use Rattle.meter.specs.Prices.{dispatchPrice}
 use Rattle.container.specs.Container.{Entry, Container, slotCount}
 use Rattle.container.specs.Reader.{read, entries, refused, readOf, layoutOf}
 use Rattle.container.specs.Entries.{placed, slotsOf}
-use Rattle.container.specs.ReadTold.{ReadTold, laid, code-within}
+use Rattle.container.specs.ReadToldLaws.{ReadTold, laid, code-within}
 use Rattle.container.specs.Answers.{readError}
 use Rattle.container.specs.declared.reader.Layout.{Layout}
 use Rattle.container.specs.declared.reader.ReadError.{ReadError}
 use Rattle.container.specs.declared.entries.EntryLayout.{EntryLayout}
 use Rattle.keys.specs.declared.look.TableRows.{TableRows}
-use Rattle.opening.specs.Opening.{Input, Lent, start, must, within, startsOf, envOf, machineFor, openingRead, openingIn, openingOne, openingAt}
+use Rattle.starts.specs.Starts.{startsOf}
+use Rattle.opening.specs.Opening.{Input, Lent, start, must, within, envOf, machineFor, openingRead, openingIn, openingOne, openingAt}
 use Rattle.opening.specs.Opened.{inputOf, ToldOf, Opens}
-use Rattle.opening.specs.Parts.{Checks, OnlyTold, Enters, Searched, Beginning, Begins}
+use Rattle.opening.specs.Parts.{Checks, SoughtTold, OpensIn, Searched, Beginning, OpensAt}
 use Rattle.opening.specs.SizeLaws.{code-small}
 use Rattle.opening.specs.StandingLaws.{entry-stands, consts-stand}
 use Rattle.opening.specs.declared.open.Call.{Call}
-use Rattle.opening.specs.declared.open.Opening.{Opening}
-use Rattle.opening.specs.declared.open.Opening.the-variants.{Done, Refused}
+use Rattle.opening.specs.declared.open.OpenAnswer.{OpenAnswer}
+use Rattle.opening.specs.declared.open.OpenAnswer.the-variants.{Done, Refused}
 use Rattle.opening.specs.declared.lent.Tables.{Tables}
 use Rattle.opening.specs.declared.lent.Tables.the-variants as tables
 use Rattle.opening.specs.declared.unique_entry.Sought.{Sought}
@@ -53,8 +54,8 @@ module _ (c : Call) (s st ld rp : List ℕ) where
       unfolding openingIn
       bad-tables n e = λ pre b. let h = subst (Checks c st ld rp) e k s pre in opened pre b ∙ rw (h .0, h .1)
 
-      pub entered : (n : TableRows) → t ≡ tables.Good n → Bytes s → (o : Opening) →
-          Enters c l n s (take (l .«code_at» + l .code - l .«code_at») (drop (l .«code_at») s)) o → Opens c s st ld rp o
+      pub entered : (n : TableRows) → t ≡ tables.Good n → Bytes s → (o : OpenAnswer) →
+          OpensIn c l n s (take (l .«code_at» + l .code - l .«code_at») (drop (l .«code_at») s)) o → Opens c s st ld rp o
       entered n e all o q = λ pre b. q st ld rp pre b (record {
         read = r;
         bytes = all;
@@ -66,17 +67,17 @@ module _ (c : Call) (s st ld rp : List ℕ) where
 -- ---- the selector, the sizes, the entries
 
 module _ (c : Call) (l : Layout) (n : TableRows) (s code : List ℕ) where
-  pub genesis : both (c .entry) (eqb (c .selector) (c .host .genesis)) ≡ true → Enters c l n s code (Refused (refusal 9 0))
+  pub genesis : both (c .entry) (eqb (c .selector) (c .host .genesis)) ≡ true → OpensIn c l n s code (Refused (refusal 9 0))
   unfolding openingIn
   genesis h = λ st ld rp pre b i. i .is ∙ rw (i .tables .number, h)
 
   module _ (g : both (c .entry) (eqb (c .selector) (c .host .genesis)) ≡ false) (small : Bool) (q : (d : Container) → l ≡ layoutOf d → small ≡ within d) where
-    pub too-large : small ≡ false → Enters c l n s code (Refused (refusal 14 0))
+    pub too-large : small ≡ false → OpensIn c l n s code (Refused (refusal 14 0))
     unfolding openingIn
     too-large h = λ st ld rp pre b i. i .is ∙ rw (i .tables .number, g, ← q (i .read .found) (i .read .layout), h)
 
     pub searched : small ≡ true → (o : Sought) →
-        ((es : List Entry) (t : List ℕ) → entries (l .entries) (drop (l .«entries_at») s) ≡ read es t → OnlyTold s (c .selector) es o) → Searched c l n s code o
+        ((es : List Entry) (t : List ℕ) → entries (l .entries) (drop (l .«entries_at») s) ≡ read es t → SoughtTold s (c .selector) es o) → Searched c l n s code o
     unfolding openingIn
     searched h o k = λ st ld rp pre b i. record {
       entering = i;
@@ -86,15 +87,15 @@ module _ (c : Call) (l : Layout) (n : TableRows) (s code : List ℕ) where
     }
 
   module _ (o : Sought) (k : Searched c l n s code o) where
-    pub missing : o ≡ Missing → Enters c l n s code (Refused (refusal 9 0))
+    pub missing : o ≡ Missing → OpensIn c l n s code (Refused (refusal 9 0))
     unfolding openingOne
     missing e = λ st ld rp pre b i. let x = subst (Searched c l n s code) e k st ld rp pre b i in x .is ∙ rw (x .told)
 
-    pub twice : o ≡ Twice → Enters c l n s code (Refused (refusal 14 0))
+    pub twice : o ≡ Twice → OpensIn c l n s code (Refused (refusal 14 0))
     unfolding openingOne
     twice e = λ st ld rp pre b i. let x = subst (Searched c l n s code) e k st ld rp pre b i in x .is ∙ rw (x .told .is)
 
-    pub begins : (e : EntryLayout) → o ≡ At e → (r : Opening) → Begins c l n e code r → Enters c l n s code r
+    pub begins : (e : EntryLayout) → o ≡ At e → (r : OpenAnswer) → OpensAt c l n e code r → OpensIn c l n s code r
     unfolding openingOne
     begins e h r a = λ st ld rp pre b i.
         let x = subst (Searched c l n s code) h k st ld rp pre b i in
@@ -149,22 +150,22 @@ module _ (x : Input) (b : Lent) (l : Layout) (n : TableRows) (e : EntryLayout) (
         offset = offset;
         offset-small = s .offset;
         store = i .entering .tables .store;
-        present = i .entering .tables .present;
+        «has_loader» = i .entering .tables .«has_loader»;
         loader = i .entering .tables .loader;
         used = price used p;
         afford = rw (price used p) at a;
       }
 
 module _ (c : Call) (l : Layout) (n : TableRows) (e : EntryLayout) (code : List ℕ) where
-  pub many-slots : leb (slotsOf e) 4096 ≡ false → Begins c l n e code (Refused (refusal 14 0))
+  pub many-slots : leb (slotsOf e) 4096 ≡ false → OpensAt c l n e code (Refused (refusal 14 0))
   many-slots h = λ s st ld rp pre b i. tested _ b l n e code i _ refl ∙ rw h
 
   module _ (f : leb (slotsOf e) 4096 ≡ true) (used : ℕ) (p : used ≡ min (dispatchPrice (l .code)) (2 ^ 64 - 1)) where
-    pub too-dear : c .limit < used → Begins c l n e code (Refused (refusal 1 0))
+    pub too-dear : c .limit < used → OpensAt c l n e code (Refused (refusal 1 0))
     too-dear h = λ s st ld rp pre b i. tested _ b l n e code i used p ∙ rw (f, lt-leb used (c .limit) h)
 
     -- the offset decides
     pub at-offset : used ≤ c .limit → (t : Bool) → member (e .offset) (startsOf code) ≡ t →
-        Begins c l n e code (pick t (Done (record { layout = l; entry = e; lent = n; used = used })) (Refused (refusal 14 0)))
+        OpensAt c l n e code (pick t (Done (record { layout = l; entry = e; lent = n; used = used })) (Refused (refusal 14 0)))
     at-offset a true h = λ s st ld rp pre b i. found _ b l n e code i used p a (tested _ b l n e code i used p ∙ rw (f, le-leb used (c .limit) a, h))
     at-offset a false h = λ s st ld rp pre b i. tested _ b l n e code i used p ∙ rw (f, le-leb used (c .limit) a, h)

@@ -15,15 +15,15 @@ use Rattle.opening.specs.Opening.{Input, Lent, start, refuse, envOf, mac
 use Rattle.machine.specs.declared.host.Host.{Host}
 use Rattle.opening.specs.declared.open.Call.{Call}
 use Rattle.opening.specs.declared.open.Opened.{Opened}
-use Rattle.opening.specs.declared.open.Opening.{Opening}
-use Rattle.opening.specs.declared.open.Opening.the-variants.{Done, Refused}
+use Rattle.opening.specs.declared.open.OpenAnswer.{OpenAnswer}
+use Rattle.opening.specs.declared.open.OpenAnswer.the-variants.{Done, Refused}
 
 -- an entry's call, by a selector, and the call of the genesis entry
-abbrev pub entryCall : (selector limit : ℕ) → Host → (present : Bool) → Call
-entryCall selector limit h p = record { entry = true; selector = selector; limit = limit; host = h; present = p }
+abbrev pub entryCall : (selector limit : ℕ) → Host → («has_loader» : Bool) → Call
+entryCall selector limit h p = record { entry = true; selector = selector; limit = limit; host = h; «has_loader» = p }
 
-abbrev pub genesisCall : (limit : ℕ) → Host → (present : Bool) → Call
-genesisCall limit h p = record { entry = false; selector = h .genesis; limit = limit; host = h; present = p }
+abbrev pub genesisCall : (limit : ℕ) → Host → («has_loader» : Bool) → Call
+genesisCall limit h p = record { entry = false; selector = h .genesis; limit = limit; host = h; «has_loader» = p }
 
 -- the input of a call
 abbrev pub inputOf : Call → (container store loader replies preload : List ℕ) → Input
@@ -34,7 +34,7 @@ inputOf c s st ld rp pre = record {
   limit = c .limit;
   host = c .host;
   store = st;
-  present = c .present;
+  «has_loader» = c .«has_loader»;
   loader = ld;
   replies = rp;
   preload = pre;
@@ -49,7 +49,7 @@ abbrev pub Listed : List ℕ → Slots → List ℕ → Type 0
 Listed s l words = Standing s (l .at) (l .count) words
 
 -- a container and an entry that the opening starts from, and where their parts stand
-pub record Found (x : Input) (b : Lent) (o : Opened) : Type 0 where
+pub record OpenedFrom (x : Input) (b : Lent) (o : Opened) : Type 0 where
   pub container : Container
   pub entry : Entry
   pub is : openingRead x b (readOf (x .container)) ≡ start (envOf x b container entry) (machineFor x container entry)
@@ -64,15 +64,15 @@ pub record Found (x : Input) (b : Lent) (o : Opened) : Type 0 where
   pub offset : o .entry .offset ≡ entry .offset
   pub offset-small : entry .offset < 4294967296
   pub store : checkedOf 40 (x .store) ≡ Whole (o .lent .store)
-  pub present : o .lent .present ≡ x .present
-  pub loader : x .present ≡ true → checkedOf 40 (x .loader) ≡ Whole (o .lent .loader)
+  pub «has_loader» : o .lent .«has_loader» ≡ x .«has_loader»
+  pub loader : x .«has_loader» ≡ true → checkedOf 40 (x .loader) ≡ Whole (o .lent .loader)
   pub used : o .used ≡ dispatchPrice (length (container .code))
   pub afford : dispatchPrice (length (container .code)) ≤ x .limit
 
-abbrev pub ToldOf : Input → Lent → Opening → Type 0
-ToldOf x b (Done o) = Found x b o
+abbrev pub ToldOf : Input → Lent → OpenAnswer → Type 0
+ToldOf x b (Done o) = OpenedFrom x b o
 ToldOf x b (Refused n) = openingRead x b (readOf (x .container)) ≡ refuse n
 
 -- whatever is lent, and whatever the preload is
-abbrev pub Opens : Call → (container store loader replies : List ℕ) → Opening → Type 0
+abbrev pub Opens : Call → (container store loader replies : List ℕ) → OpenAnswer → Type 0
 Opens c s st ld rp r = (pre : List ℕ) (b : Lent) → ToldOf (inputOf c s st ld rp pre) b r

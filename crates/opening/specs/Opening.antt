@@ -17,7 +17,7 @@ use Rattle.replies.specs.Replies.{repliesOf}
 use Rattle.container.specs.Container.{Entry, Container, slotCount}
 use Rattle.container.specs.Reader.{Read, done, refused, readOf}
 use Rattle.container.specs.Answers.{readError}
-use Rattle.starts.specs.Starts.{walkOf}
+use Rattle.starts.specs.Starts.{startsOf}
 use Rattle.keys.specs.Lent.{loaderOf, roomsOf}
 use Rattle.keys.specs.Opening.{noKeys}
 use Rattle.state.specs.Regs.{cleared}
@@ -33,7 +33,7 @@ pub record Input : Type 0 where
   pub limit : ℕ
   pub host : Host
   pub store : List ℕ
-  pub present : Bool
+  pub «has_loader» : Bool
   pub loader : List ℕ
   pub replies : List ℕ
   pub preload : List ℕ
@@ -41,7 +41,7 @@ pub record Input : Type 0 where
 -- what it is lent: what a run changes, and the boundary map
 pub record Lent : Type 0 where
   pub run : Bufs
-  pub map : List ℕ
+  pub starts : List ℕ
 
 pub data Opening : Type 0 where
   refuse : Refusal → Opening
@@ -51,19 +51,15 @@ pub data Opening : Type 0 where
 abbrev pub must : Bool → ℕ → Opening → Opening
 must ok n then = pick ok then (refuse (refusal n 0))
 
--- instruction starts: reading from 0 to the first undecodable place; no index of 16 bits comes to 65536, so none ends the reading
-abbrev pub startsOf : List ℕ → List ℕ
-startsOf code = walkOf code 65536 .starts
-
 -- memory of 65536 bytes, a stack of 1024 words, a map of 8192 bytes
 abbrev pub sizesFit : Lent → Bool
-sizesFit b = both (eqb (length (b .run .memory)) 65536) (both (eqb (length (b .run .stack)) 1024) (eqb (length (b .map)) 8192))
+sizesFit b = both (eqb (length (b .run .memory)) 65536) (both (eqb (length (b .run .stack)) 1024) (eqb (length (b .starts)) 8192))
 
 -- store, then loader if there is one, then replies
 abbrev pub tablesNumber : Input → ℕ
 tablesNumber x =
     pick (eqb (checkedNumber (checkedOf 40 (x .store))) 0)
-    (pick (both (x .present) (not (eqb (checkedNumber (checkedOf 40 (x .loader))) 0))) 45 (repliesNumber (repliesOf (x .replies))))
+    (pick (both (x .«has_loader») (not (eqb (checkedNumber (checkedOf 40 (x .loader))) 0))) 45 (repliesNumber (repliesOf (x .replies))))
     45
 
 -- at most 65536 bytes of code, 4096 constants, 256 entries
@@ -90,7 +86,7 @@ envOf x b c e = record {
     keyed-reads = e .keyed-reads;
     keyed-writes = e .keyed-writes;
     store = rows 40 (length (x .store) / 40) (x .store);
-    loader = loaderOf (x .present) (rows 40 (length (x .loader) / 40) (x .loader));
+    loader = loaderOf (x .«has_loader») (rows 40 (length (x .loader) / 40) (x .loader));
   };
   limit = x .limit;
   host = x .host;

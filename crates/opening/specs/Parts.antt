@@ -9,15 +9,15 @@ use Rattle.tables.specs.Checked.{checkedOf}
 use Rattle.tables.specs.declared.check.Checked.the-variants.{Whole}
 use Rattle.container.specs.Container.{Entry}
 use Rattle.container.specs.Reader.{readOf}
-use Rattle.container.specs.EntryTold.{EntryFound}
-use Rattle.container.specs.ReadTold.{ReadTold}
+use Rattle.container.specs.EntryToldLaws.{EntryFound}
+use Rattle.container.specs.ReadToldLaws.{ReadTold}
 use Rattle.container.specs.declared.reader.Layout.{Layout}
 use Rattle.container.specs.declared.entries.EntryLayout.{EntryLayout}
 use Rattle.keys.specs.declared.look.TableRows.{TableRows}
 use Rattle.opening.specs.Opening.{Input, Lent, tablesNumber, matching, openingRead, openingIn, openingOne, openingAt}
 use Rattle.opening.specs.Opened.{inputOf, ToldOf}
 use Rattle.opening.specs.declared.open.Call.{Call}
-use Rattle.opening.specs.declared.open.Opening.{Opening}
+use Rattle.opening.specs.declared.open.OpenAnswer.{OpenAnswer}
 use Rattle.opening.specs.declared.lent.Tables.{Tables}
 use Rattle.opening.specs.declared.lent.Tables.the-variants.{Good, Bad}
 use Rattle.opening.specs.declared.unique_entry.Sought.{Sought}
@@ -29,8 +29,8 @@ use Rattle.opening.specs.declared.unique_entry.Sought.the-variants.{At, 
 pub record Tabled (x : Input) (n : TableRows) : Type 0 where
   pub number : tablesNumber x ≡ 0
   pub store : checkedOf 40 (x .store) ≡ Whole (n .store)
-  pub present : n .present ≡ x .present
-  pub loader : x .present ≡ true → checkedOf 40 (x .loader) ≡ Whole (n .loader)
+  pub «has_loader» : n .«has_loader» ≡ x .«has_loader»
+  pub loader : x .«has_loader» ≡ true → checkedOf 40 (x .loader) ≡ Whole (n .loader)
 
 abbrev pub TablesTold : Input → Tables → Type 0
 TablesTold x (Good n) = Tabled x n
@@ -54,10 +54,10 @@ pub record Two (selector : ℕ) (es : List Entry) : Type 0 where
   pub rest : List Entry
   pub is : matching selector es ≡ one ∷ other ∷ rest
 
-abbrev pub OnlyTold : List ℕ → ℕ → List Entry → Sought → Type 0
-OnlyTold s selector es (At e) = One s selector es e
-OnlyTold s selector es Missing = matching selector es ≡ []
-OnlyTold s selector es Twice = Two selector es
+abbrev pub SoughtTold : List ℕ → ℕ → List Entry → Sought → Type 0
+SoughtTold s selector es (At e) = One s selector es e
+SoughtTold s selector es Missing = matching selector es ≡ []
+SoughtTold s selector es Twice = Two selector es
 
 -- ---- a call whose container was read and whose tables were checked
 
@@ -68,8 +68,8 @@ pub record Entering (x : Input) (b : Lent) (l : Layout) (n : TableRows) (part : 
   pub tables : Tabled x n
   pub is : openingRead x b (readOf (x .container)) ≡ openingIn x b (read .found)
 
-abbrev pub Enters : Call → Layout → TableRows → (container code : List ℕ) → Opening → Type 0
-Enters c l n s code r =
+abbrev pub OpensIn : Call → Layout → TableRows → (container code : List ℕ) → OpenAnswer → Type 0
+OpensIn c l n s code r =
     (st ld rp pre : List ℕ) (b : Lent) → Entering (inputOf c s st ld rp pre) b l n code → ToldOf (inputOf c s st ld rp pre) b r
 
 -- and whose entries were searched for the selector
@@ -77,7 +77,7 @@ pub record Choosing (x : Input) (b : Lent) (l : Layout) (n : TableRows) (part : 
   pub entering : Entering x b l n part
   pub small : l .code ≤ 65536
   pub is : openingRead x b (readOf (x .container)) ≡ openingOne x b (entering .read .found) (matching (x .selector) (entering .read .found .entries))
-  pub told : OnlyTold (x .container) (x .selector) (entering .read .found .entries) o
+  pub told : SoughtTold (x .container) (x .selector) (entering .read .found .entries) o
 
 abbrev pub Searched : Call → Layout → TableRows → (container code : List ℕ) → Sought → Type 0
 Searched c l n s code o =
@@ -91,6 +91,6 @@ pub record Beginning (x : Input) (b : Lent) (l : Layout) (n : TableRows) (e : En
   pub entry : EntryFound (x .container) at e
   pub is : openingRead x b (readOf (x .container)) ≡ openingAt x b (entering .read .found) (entry .found)
 
-abbrev pub Begins : Call → Layout → TableRows → EntryLayout → (code : List ℕ) → Opening → Type 0
-Begins c l n e code r =
+abbrev pub OpensAt : Call → Layout → TableRows → EntryLayout → (code : List ℕ) → OpenAnswer → Type 0
+OpensAt c l n e code r =
     (s st ld rp pre : List ℕ) (b : Lent) → Beginning (inputOf c s st ld rp pre) b l n e code → ToldOf (inputOf c s st ld rp pre) b r

@@ -11,8 +11,8 @@ use Rattle.container.specs.Reader.{Parsed, read, andThen, part, number, counted
 use Rattle.container.specs.Entries.{placed}
 use Rattle.words.specs.BytesLaws.{length-words}
 use Rattle.container.specs.EntryLaws.{lists, head}
-use Rattle.container.specs.EntryTold.{both-read, after, counted-told, entry-told, EntryFound}
-use Rattle.container.specs.ReadTold.{number-told, part-told, ReadTold}
+use Rattle.container.specs.EntryToldLaws.{both-read, after, counted-told, entry-told, EntryFound}
+use Rattle.container.specs.ReadToldLaws.{number-told, part-told, ReadTold}
 use Rattle.container.specs.declared.reader.Layout.{Layout}
 use Rattle.container.specs.declared.entries.EntryLayout.{EntryLayout}
 use Rattle.opening.specs.Opened.{Standing, Listed}
@@ -37,7 +37,8 @@ pub record ListTold {B : Type 0} (s : List ℕ) (at : ℕ) (f : List ℕ → Lis
   pub stand : Standing s (at + 4) (length words) words
   pub then : f words (drop (after at words) s) ≡ read b t
 
-list-told : {B : Type 0} (s : List ℕ) (at : ℕ) (f : List ℕ → List ℕ → Parsed B) (b : B) (t : List ℕ) → andThen (counted (drop at s)) f ≡ read b t → ListTold s at f b t
+list-told : {B : Type 0} (s : List ℕ) (at : ℕ) (f : List ℕ → List ℕ → Parsed B) (b : B) (t : List ℕ) → andThen (counted (drop at s)) f ≡ read b t →
+    ListTold s at f b t
 list-told s at f b t h =
     let x = both-read (counted (drop at s)) f b t h in
     record { words = x .first; stand = standing s at (x .first) (x .rest) (x .is); then = rw (counted-told s at (x .first) (x .rest) (x .is) .0) at (x .then) }
@@ -50,7 +51,8 @@ pub record EntryStands (s : List ℕ) (e : Entry) (l : EntryLayout) : Type 0 whe
   pub keyed-writes : Listed s (l .«keyed_writes») (e .keyed-writes)
   pub offset : e .offset < 4294967296
 
-lists-placed : (s : List ℕ) (at sel off : ℕ) (e : Entry) (t : List ℕ) → off < 4294967296 → lists sel off (drop (at + 8) s) ≡ read e t → EntryStands s e (placed at e)
+lists-placed : (s : List ℕ) (at sel off : ℕ) (e : Entry) (t : List ℕ) → off < 4294967296 → lists sel off (drop (at + 8) s) ≡ read e t →
+    EntryStands s e (placed at e)
 unfolding placed
 lists-placed s at sel off e t small h =
     let r = list-told s (at + 8) _ e t h in

@@ -48,21 +48,21 @@ module _ (c : Call) (st ld rp : List ℕ) where
   store-bad e = λ s pre. (rw e, refl)
 
   module _ (n : ℕ) (h : checkedOf 40 st ≡ Whole n) where
-    pub loader-bad : checkedIf (c .present) 40 ld ≡ Bad → Checks c st ld rp (tables.Bad 45)
+    pub loader-bad : checkedIf (c .«has_loader») 40 ld ≡ Bad → Checks c st ld rp (tables.Bad 45)
     unfolding checkedNumber
-    loader-bad e = let b = bad-there (c .present) ld e in λ s pre. (rw (h, b .0, b .1), refl)
+    loader-bad e = let b = bad-there (c .«has_loader») ld e in λ s pre. (rw (h, b .0, b .1), refl)
 
-    module _ (m : ℕ) (l : checkedIf (c .present) 40 ld ≡ Whole m) where
+    module _ (m : ℕ) (l : checkedIf (c .«has_loader») 40 ld ≡ Whole m) where
       replies-decide : (s pre : List ℕ) → tablesNumber (inputOf c s st ld rp pre) ≡ repliesNumber (repliesOf rp)
       unfolding checkedNumber
-      replies-decide s pre = rw h (passes (c .present) ld m (repliesNumber (repliesOf rp)) l)
+      replies-decide s pre = rw h (passes (c .«has_loader») ld m (repliesNumber (repliesOf rp)) l)
 
-      pub replied : (r : Replies) → repliesOf rp ≡ r → Checks c st ld rp (tablesBy r (record { store = n; present = c .present; loader = m }))
+      pub replied : (r : Replies) → repliesOf rp ≡ r → Checks c st ld rp (tablesBy r (record { store = n; «has_loader» = c .«has_loader»; loader = m }))
       unfolding repliesNumber
       replied replies.Bad e = λ s pre. (replies-decide s pre ∙ rw e, refl)
       replied (replies.Rows k) e = λ s pre. record {
         number = replies-decide s pre ∙ rw e;
         store = h;
-        present = refl;
-        loader = there (c .present) ld m l;
+        «has_loader» = refl;
+        loader = there (c .«has_loader») ld m l;
       }

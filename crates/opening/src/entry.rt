@@ -5,10 +5,10 @@ ghost use Rattle.words.specs.Choice.{both};
 ghost use Rattle.container.specs.Container.{Container};
 ghost use Rattle.container.specs.Reader.{layoutOf};
 ghost use Rattle.opening.specs.Opening.{within};
-ghost use Rattle.opening.specs.Parts.{Begins, Enters};
+ghost use Rattle.opening.specs.Parts.{OpensAt, OpensIn};
 use super::open::Call;
+use super::open::OpenAnswer;
 use super::open::Opened;
-use super::open::Opening;
 use super::unique_entry::Sought;
 use container::entries::EntryLayout;
 use container::reader::Layout;
@@ -39,29 +39,29 @@ fn sizes_within_limits(l: Layout) -> bool
 }
 
 // The entry's slots, what opening costs, the entry's offset.
-fn begin(call: Call, l: Layout, lent: TableRows, e: EntryLayout, code: &[u8]) -> Opening
-    ensures { λ r. ⌜ Begins call l lent e (now (code .entry)) r ⌝ }
+fn begin(call: Call, l: Layout, lent: TableRows, e: EntryLayout, code: &[u8]) -> OpenAnswer
+    ensures { λ r. ⌜ OpensAt call l lent e (now (code .entry)) r ⌝ }
 {
     if !container::entries::slots_within_limit(e) {
-        return Opening::Refused(Refusal {
+        return OpenAnswer::Refused(Refusal {
             number: 14,
             argument: 0,
         });
     }
     let used = meter::dispatch(l.code as u64);
     if call.limit < used {
-        return Opening::Refused(Refusal {
+        return OpenAnswer::Refused(Refusal {
             number: 1,
             argument: 0,
         });
     }
     if !super::unmapped::is_start(code, e.offset) {
-        return Opening::Refused(Refusal {
+        return OpenAnswer::Refused(Refusal {
             number: 14,
             argument: 0,
         });
     }
-    Opening::Done(Opened {
+    OpenAnswer::Done(Opened {
         layout: l,
         entry: e,
         lent: lent,
@@ -70,17 +70,17 @@ fn begin(call: Call, l: Layout, lent: TableRows, e: EntryLayout, code: &[u8]) ->
 }
 
 // The call's selector, the container's sizes, then the entry.
-pub fn enter(call: Call, l: Layout, lent: TableRows, container: &[u8], code: &[u8]) -> Opening
-    ensures { λ r. ⌜ Enters call l lent (now (container .entry)) (now (code .entry)) r ⌝ }
+pub fn enter(call: Call, l: Layout, lent: TableRows, container: &[u8], code: &[u8]) -> OpenAnswer
+    ensures { λ r. ⌜ OpensIn call l lent (now (container .entry)) (now (code .entry)) r ⌝ }
 {
     if asks_for_genesis(call) {
-        return Opening::Refused(Refusal {
+        return OpenAnswer::Refused(Refusal {
             number: 9,
             argument: 0,
         });
     }
     if !sizes_within_limits(l) {
-        return Opening::Refused(Refusal {
+        return OpenAnswer::Refused(Refusal {
             number: 14,
             argument: 0,
         });
@@ -92,11 +92,11 @@ pub fn enter(call: Call, l: Layout, lent: TableRows, container: &[u8], code: &[u
         call.selector as u64,
     );
     match o {
-        Sought::Missing => Opening::Refused(Refusal {
+        Sought::Missing => OpenAnswer::Refused(Refusal {
             number: 9,
             argument: 0,
         }),
-        Sought::Twice => Opening::Refused(Refusal {
+        Sought::Twice => OpenAnswer::Refused(Refusal {
             number: 14,
             argument: 0,
         }),

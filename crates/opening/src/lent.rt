@@ -18,7 +18,7 @@ pub fn check(call: Call, store: &[u8], loader: &[u8], replies: &[u8]) -> Tables
     let Checked::Whole(n) = tables::check::check(store, 40) else {
         return Tables::Bad(45);
     };
-    let Checked::Whole(m) = tables::check::check_if(call.present, loader, 40) else {
+    let Checked::Whole(m) = tables::check::check_if(call.has_loader, loader, 40) else {
         return Tables::Bad(45);
     };
     let Replies::Rows(_) = replies::rows::check_replies(replies) else {
@@ -26,7 +26,7 @@ pub fn check(call: Call, store: &[u8], loader: &[u8], replies: &[u8]) -> Tables
     };
     Tables::Good(TableRows {
         store: n,
-        present: call.present,
+        has_loader: call.has_loader,
         loader: m,
     })
 }

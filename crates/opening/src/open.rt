@@ -15,33 +15,33 @@ pub struct Call {
     pub selector: u32,
     pub limit: u64,
     pub host: Host,
-    pub present: bool,
+    pub has_loader: bool,
 }
 
 impl Call {
     // An entry's call, by a selector.
-    pub fn for_entry(selector: u32, limit: u64, host: Host, present: bool) -> Call
-        ensures { λ r. ⌜ r ≡ entryCall selector limit host present ⌝ }
+    pub fn for_entry(selector: u32, limit: u64, host: Host, has_loader: bool) -> Call
+        ensures { λ r. ⌜ r ≡ entryCall selector limit host «has_loader» ⌝ }
     {
         Call {
             entry: true,
             selector,
             limit,
             host,
-            present,
+            has_loader,
         }
     }
 
     // The call of the genesis entry.
-    pub fn for_genesis(limit: u64, host: Host, present: bool) -> Call
-        ensures { λ r. ⌜ r ≡ genesisCall limit host present ⌝ }
+    pub fn for_genesis(limit: u64, host: Host, has_loader: bool) -> Call
+        ensures { λ r. ⌜ r ≡ genesisCall limit host «has_loader» ⌝ }
     {
         Call {
             entry: false,
             selector: host.genesis,
             limit,
             host,
-            present,
+            has_loader,
         }
     }
 }
@@ -54,23 +54,23 @@ pub struct Opened {
     pub used: u64,
 }
 
-pub enum Opening {
+pub enum OpenAnswer {
     Done(Opened),
     Refused(Refusal),
 }
 
-pub fn open(call: Call, container: &[u8], store: &[u8], loader: &[u8], replies: &[u8]) -> Opening
+pub fn open(call: Call, container: &[u8], store: &[u8], loader: &[u8], replies: &[u8]) -> OpenAnswer
     ensures { λ r. ⌜ Opens call (now (container .entry)) (now (store .entry)) (now (loader .entry)) (now (replies .entry)) r ⌝ }
 {
     let d = container::reader::read(container);
     match d {
-        Reading::Refused(e) => Opening::Refused(e.refusal()),
+        Reading::Refused(e) => OpenAnswer::Refused(e.refusal()),
         Reading::Done(l) => {
             let at = l.code_at;
             let end = at + l.code;
             let t = super::lent::check(call, store, loader, replies);
             match t {
-                Tables::Bad(n) => Opening::Refused(Refusal {
+                Tables::Bad(n) => OpenAnswer::Refused(Refusal {
                     number: n,
                     argument: 0,
                 }),

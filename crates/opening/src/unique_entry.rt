@@ -5,10 +5,10 @@ ghost use Prim.Native.Nat.{ℕ};
 ghost use lib.ListN.{drop};
 ghost use Rattle.container.specs.Container.{Entry};
 ghost use Rattle.container.specs.Reader.{read, entries};
-ghost use Rattle.opening.specs.Parts.{OnlyTold};
+ghost use Rattle.opening.specs.Parts.{SoughtTold};
 use container::entries::EntryLayout;
 use container::entries::EntryRead;
-use container::offsets::Found;
+use container::offsets::FirstMatch;
 
 pub enum Sought {
     At(EntryLayout),
@@ -18,7 +18,7 @@ pub enum Sought {
 
 // The entry with a selector, among n that were read from a place on, unless a second one has it.
 pub fn unique_entry(s: &[u8], first: usize, n: usize, selector: u64) -> Sought
-    ensures { λ r. ⌜ ((es : List Entry) (t : List ℕ) → entries n (drop first (now (s .entry))) ≡ read es t → OnlyTold (now (s .entry)) selector es r) ⌝ }
+    ensures { λ r. ⌜ ((es : List Entry) (t : List ℕ) → entries n (drop first (now (s .entry))) ≡ read es t → SoughtTold (now (s .entry)) selector es r) ⌝ }
 {
     let mut at = first;
     let mut more = n;
@@ -29,7 +29,7 @@ pub fn unique_entry(s: &[u8], first: usize, n: usize, selector: u64) -> Sought
         at = e.end;
         more -= 1;
         if e.selector == selector {
-            if let Found::At(_) = container::offsets::find(s, at, more, selector) {
+            if let FirstMatch::At(_) = container::offsets::find(s, at, more, selector) {
                 return Sought::Twice;
             }
             return Sought::At(e);

@@ -1,7 +1,7 @@
 // Instruction starts, without a map of them.
 ghost use mathlib.Core.Path.{_≡_};
 ghost use Rattle.words.specs.Lists.{member};
-ghost use Rattle.opening.specs.Opening.{startsOf};
+ghost use Rattle.starts.specs.Starts.{startsOf};
 use isa::codec::Decoded;
 
 // Whether an instruction starts at a place, reading the code from its first byte on.

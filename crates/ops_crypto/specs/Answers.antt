@@ -11,7 +11,7 @@ use Rattle.machine.specs.declared.turn.Turn.{Turn}
 
 -- the two lists of authorised keys are good beside some other tables: what a plan says of room is known over good tables alone
 abbrev pub GoodLists : Counts → (readable writable : List ℕ) → Type 0
-GoodLists c readable writable = (changes : List ℕ) × (fetched : List ℕ) × (paid : List ℕ) × Good c (tables.bufs changes fetched readable writable paid)
+GoodLists c readable writable = (changes : List ℕ) × (fetched : List ℕ) × (paid : List ℕ) × Good c (tables.keyBufs changes fetched readable writable paid)
 
 -- a turn that goes on with what is put
 abbrev pub goesWith : Run → Put → Turn

@@ -66,7 +66,7 @@ module _ (s : List ℕ) (k : ℕ) where
     pub shown-is : take n (x .bytes) ≡ take (x .length) (x .bytes)
     shown-is = ap (λ (j : ℕ). take j (x .bytes)) w ∙ taken (x .length) (x .bytes) thirty-two
 
-module _ (e : Env) (s : List ℕ) (d : ℕ) (f : RegFile) (r : Run) (mem st : List ℕ) (ks : tables.Bufs) (log : List ℕ) where
+module _ (e : Env) (s : List ℕ) (d : ℕ) (f : RegFile) (r : Run) (mem st : List ℕ) (ks : tables.KeyBufs) (log : List ℕ) where
   -- ---- the three ways out
 
   module _ (a : Bufs) (t : Turn) where
@@ -106,7 +106,9 @@ module _ (e : Env) (s : List ℕ) (d : ℕ) (f : RegFile) (m : Machine) (u n : �
       go [] y = record { turned = y .turned }
       go (x ∷ rs) y = row x rs (x .outcome) y
 
-  pub asked-on : (v : Turn) (a : Bufs) → t .fault ≡ 0 → (Sound e s d (t .run) b → Played e s d f (t .run .meter .used) (t .run .fetches) (k (bare (machineOf s (t .run) (puts (t .put) f) b))) v a) → Played e s d f u n (asking (bare m) k) v a
+  pub asked-on : (v : Turn) (a : Bufs) → t .fault ≡ 0 →
+      (Sound e s d (t .run) b → Played e s d f (t .run .meter .used) (t .run .fetches) (k (bare (machineOf s (t .run) (puts (t .put) f) b))) v a) →
+      Played e s d f u n (asking (bare m) k) v a
   unfolding play machineOf
   asked-on v a z on = go (m .replies) h
     where

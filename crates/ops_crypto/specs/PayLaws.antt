@@ -19,7 +19,8 @@ pub record Priced (e : Env) (s : List ℕ) (d : ℕ) (f : RegFile) (r : Run) (b 
   pub off : (a : Bufs) (t : Turn) → x ≡ paid.OutOfMeter → t ≡ stops r 1 → Does e s d rule r f b a t
 
 -- two rules whose plays come to the same here; so may a rule be under a limit alone
-plays-as : {e : Env} {s : List ℕ} {d : ℕ} {f : RegFile} {u n : ℕ} {r q : Rule} {t : Turn} {b : Bufs} → play (e .limit) u n q ≡ play (e .limit) u n r → Played e s d f u n r t b → Played e s d f u n q t b
+plays-as : {e : Env} {s : List ℕ} {d : ℕ} {f : RegFile} {u n : ℕ} {r q : Rule} {t : Turn} {b : Bufs} → play (e .limit) u n q ≡ play (e .limit) u n r →
+    Played e s d f u n r t b → Played e s d f u n q t b
 plays-as {e} {s} {d} {f} {u} {n} {r} {q} {t} {b} h x = record { turned = rw h (x .turned) }
 
 module _ {e : Env} {s : List ℕ} {d : ℕ} {f : RegFile} {r : Run} {b : Bufs} (rule rest : Machine → Rule) (p : ℕ) {x : Paid} (h : x ≡ paidBy r p) where

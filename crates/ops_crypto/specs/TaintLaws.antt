@@ -19,7 +19,7 @@ use Rattle.state.specs.declared.memory.Load.the-variants.{Word, BadMemory}
 use Rattle.keys.specs.Known.{Keys}
 use Rattle.keys.specs.Known as known
 use Rattle.keys.specs.Steps.{keyed, authorised}
-use Rattle.keys.specs.Lent.{Given, envOf, keysOf, roomsOf}
+use Rattle.keys.specs.Lent.{Given, keyEnvOf, keysOf, roomsOf}
 use Rattle.keys.specs.Sound.{Leaves}
 use Rattle.keys.specs.Lent as tables
 use Rattle.keys.specs.KeyPlans.{keyPlan}
@@ -88,8 +88,8 @@ module _ (e : Env) (s : List ℕ) (d : ℕ) (f : RegFile) (r : Run) (p : Put) (b
       settle-full a t w o = λ sixteen so. rw w (need-on 11 (le-leb (r .keyed + plan .bytes) 1048576 (omega arith)) (need-stops 48 (omega arith) o))
 
       module _ (n : Counts) (ur uw : List ℕ) (lr : length ur ≡ length (b .keys .may-read)) (lw : length uw ≡ length (b .keys .may-write)) where
-        abbrev ks : tables.Bufs
-        ks = tables.bufs (b .keys .changes) (b .keys .fetched) ur uw (b .keys .paid)
+        abbrev ks : tables.KeyBufs
+        ks = tables.keyBufs (b .keys .changes) (b .keys .fetched) ur uw (b .keys .paid)
 
         same : roomsOf ks ≡ roomsOf (b .keys)
         same = rw (lr, lw)
@@ -105,13 +105,13 @@ module _ (e : Env) (s : List ℕ) (d : ℕ) (f : RegFile) (r : Run) (p : Put) (b
 
   -- ---- a key made from a base
 
-  module _ (l : TableRows) (g : Given) (ek : e .keys ≡ envOf l g) (base k : ℕ) (plan : KeyPlan) where
+  module _ (l : TableRows) (g : Given) (ek : e .keys ≡ keyEnvOf l g) (base k : ℕ) (plan : KeyPlan) where
     -- what is authorised, for the run's counts or equal ones
     abbrev want : Counts → Keys
-    want c = authorised (envOf l g) (keysOf c (b .keys)) base k
+    want c = authorised (keyEnvOf l g) (keysOf c (b .keys)) base k
 
     abbrev Planned : Counts → Type 0
-    Planned c = plan ≡ keyPlan (roomsOf (b .keys)) (envOf l g) (keysOf c (b .keys)) base k
+    Planned c = plan ≡ keyPlan (roomsOf (b .keys)) (keyEnvOf l g) (keysOf c (b .keys)) base k
 
     abbrev before : Machine
     before = bare (machineOf s r (puts p f) b)
@@ -123,16 +123,18 @@ module _ (e : Env) (s : List ℕ) (d : ℕ) (f : RegFile) (r : Run) (p : Put) (b
     by-plan a t q so y =
         let ks : Keys = keysOf (r .counts) (b .keys) in
         rw (planned-step e before base k plan (q ∙ sym (λ i. keyPlan (so .sized .rooms i) (ek i) ks base k)))
-        (subst (λ (x : known.Env). Played e s d f (r .meter .used) (r .fetches) (pick (plan .keyed) (pay (plan .price) (settling plan (authorised x ks base k) before)) (next before)) t a) (sym ek) y)
+        (subst (λ (x : known.KeyEnv). Played e s d f (r .meter .used) (r .fetches) (pick (plan .keyed) (pay (plan .price) (settling plan (authorised x ks base k) before)) (next before)) t a) (sym ek) y)
 
-    pub admit-not : (t : Turn) → (Sound e s d r b → Planned (r .counts)) → plan .keyed ≡ false → t ≡ goesWith r p → DoesFrom e s d (admitting e base k) r f (puts p f) b b t
+    pub admit-not : (t : Turn) → (Sound e s d r b → Planned (r .counts)) → plan .keyed ≡ false → t ≡ goesWith r p →
+        DoesFrom e s d (admitting e base k) r f (puts p f) b b t
     admit-not t q o w = λ sixteen so. by-plan b t (q so) so (rw o (goes-with t w sixteen so))
 
     module _ (y : plan .keyed ≡ true) (x : Paid) (h : x ≡ paidBy r (plan .price)) (a : Bufs) (t : Turn) (q : Sound e s d r b → Planned (r .counts)) where
       pub admit-unpaid : x ≡ paid.OutOfMeter → t ≡ stops r 1 → DoesFrom e s d (admitting e base k) r f (puts p f) b a t
       admit-unpaid j w = λ sixteen so. by-plan a t (q so) so (rw (y, w) (paid-off (puts p f) so h (settling plan (want (r .counts))) j))
 
-      pub admit-paid : (n : Run) → x ≡ paid.Done n → (Planned (n .counts) → DoesFrom e s d (settling plan (want (n .counts))) n f (puts p f) b a t) → DoesFrom e s d (admitting e base k) r f (puts p f) b a t
+      pub admit-paid : (n : Run) → x ≡ paid.Done n → (Planned (n .counts) → DoesFrom e s d (settling plan (want (n .counts))) n f (puts p f) b a t) →
+          DoesFrom e s d (admitting e base k) r f (puts p f) b a t
       admit-paid n j on =
           let c : n .counts ≡ r .counts = ap (λ (z : Run). z .counts) (paid-is r (plan .price) x n h j) in
           λ sixteen so. by-plan a t (q so) so
@@ -150,7 +152,8 @@ module _ (e : Env) (s : List ℕ) (d : ℕ) (f : RegFile) (r : Run) (p : Put) (b
     unfolding tainting machineOf
     taint-outside t k w = λ sixteen so. rw (missed (length (b .memory)) out 32 x h k, both-false (keyed (e .keys) base)) (goes-with t w sixteen so)
 
-    pub taint-inside : (at end : ℕ) (a : Bufs) (t : Turn) → x ≡ Part at end → DoesFrom e s d (admitting e base (num (take (end - at) (drop at (b .memory))))) r f (puts p f) b a t
+    pub taint-inside : (at end : ℕ) (a : Bufs) (t : Turn) → x ≡ Part at end →
+        DoesFrom e s d (admitting e base (num (take (end - at) (drop at (b .memory))))) r f (puts p f) b a t
         → DoesFrom e s d (tainting e (some base) out) r f (puts p f) b a t
     unfolding tainting machineOf
     taint-inside at end a t k y =

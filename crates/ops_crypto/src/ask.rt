@@ -24,7 +24,7 @@ fn shown(length: usize) -> usize
 pub fn ask(run: Run, replies: &[u8], memory: &mut [u8]) -> Turn
     requires { ⌜ run .replies * 48 ≤ length (now replies) ⌝ }
     ensures keys { λ r. ⌜ (r .run .counts ≡ run .counts) × (r .run .keyed ≡ run .keyed) ⌝ }
-    ensures turn { λ r. ⌜ ((e : Env) (stack log : List ℕ) (d : ℕ) (ks : tables.Bufs) (f : RegFile) →
+    ensures turn { λ r. ⌜ ((e : Env) (stack log : List ℕ) (d : ℕ) (ks : tables.KeyBufs) (f : RegFile) →
         Does e (now (replies .entry)) d (λ m. asking m next) run f (bufs (now (memory .entry)) stack ks log) (bufs (now (memory .exit)) stack ks log) r) ⌝ }
 {
     if replies.len() - run.replies * 48 < 48 {

@@ -42,7 +42,7 @@ pub fn check(
     memory: &mut [u8],
 ) -> Turn
     requires { ⌜ run .replies * 48 ≤ length (now replies) ⌝ }
-    ensures { λ r. ⌜ ((e : Env) (stack log : List ℕ) (d : ℕ) (ks : tables.Bufs) → e .host ≡ host →
+    ensures { λ r. ⌜ ((e : Env) (stack log : List ℕ) (d : ℕ) (ks : tables.KeyBufs) → e .host ≡ host →
         Does e (now (replies .entry)) d (checkOf e o) run (file (now (regs .entry))) (bufs (now (memory .entry)) stack ks log) (bufs
         (now (memory .exit)) stack ks log) r) ⌝ }
 {

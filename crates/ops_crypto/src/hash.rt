@@ -4,7 +4,7 @@ ghost use mathlib.Core.List.{List};
 ghost use Prim.Native.Nat.{ℕ, _*_, _≤_};
 ghost use lib.ListN.{length};
 ghost use Rattle.state.specs.Regs.{file};
-ghost use Rattle.keys.specs.Lent.{given, envOf};
+ghost use Rattle.keys.specs.Lent.{given, keyEnvOf};
 ghost use Rattle.keys.specs.declared.look.TableRows.{TableRows};
 ghost use Rattle.machine.specs.Machine.{Env};
 ghost use Rattle.machine.specs.CryptoRules.{hashOf};
@@ -23,15 +23,15 @@ pub fn hash(
     run: Run,
     regs: &[u64],
     replies: &[u8],
-    kreads: &[u8],
-    kwrites: &[u8],
+    keyed_reads: &[u8],
+    keyed_writes: &[u8],
     memory: &mut [u8],
     readable: &mut [u8],
     writable: &mut [u8],
 ) -> Turn
     requires { ⌜ (run .replies * 48 ≤ length (now replies)) × (run .keyed ≤ 1048576) × GoodLists (run .counts) (now readable) (now writable) ⌝ }
     ensures { λ r. ⌜ ((e : Env) (l : TableRows) (rd wr st ld ch fe pd stack log : List ℕ) (d : ℕ) → e .keys ≡
-        envOf l (given rd wr (now (kreads .entry)) (now (kwrites .entry)) st ld) →
+        keyEnvOf l (given rd wr (now («keyed_reads» .entry)) (now («keyed_writes» .entry)) st ld) →
         Does e (now (replies .entry)) d (hashOf e a b c) run (file (now (regs .entry)))
         (lentTo (now (memory .entry)) stack ch fe (now (readable .entry)) (now (writable .entry)) pd log)
         (lentTo (now (memory .exit)) stack ch fe (now (readable .exit)) (now (writable .exit)) pd log) r) ⌝ }
@@ -52,8 +52,8 @@ pub fn hash(
         out,
         t.run,
         t.put,
-        kreads,
-        kwrites,
+        keyed_reads,
+        keyed_writes,
         memory,
         readable,
         writable,

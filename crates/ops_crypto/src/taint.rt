@@ -3,8 +3,7 @@ ghost use mathlib.Core.Path.{_≡_};
 ghost use mathlib.Core.List.{List};
 ghost use Prim.Native.Nat.{ℕ, _≤_};
 ghost use Rattle.state.specs.declared.regs.RegFile.{RegFile};
-ghost use Rattle.keys.specs.Lent.{given, envOf};
-ghost use Rattle.keys.specs.Lent as tables;
+ghost use Rattle.keys.specs.Lent.{given, keyEnvOf};
 ghost use Rattle.keys.specs.declared.look.TableRows.{TableRows};
 ghost use Rattle.machine.specs.Machine.{Env};
 ghost use Rattle.machine.specs.CryptoRules.{baseOf, tainting};
@@ -12,7 +11,6 @@ ghost use Rattle.machine.specs.Lent.{lentTo};
 ghost use Rattle.machine.specs.Does.{DoesFrom, puts};
 ghost use Rattle.ops_crypto.specs.Answers.{GoodLists, goesWith};
 ghost use Rattle.ops_crypto.specs.Taints.{baseIn};
-use keys::authorise::KeyPlan;
 use machine::run::Paid;
 use machine::run::Run;
 use machine::turn::Put;
@@ -59,15 +57,16 @@ pub fn taint(
     out: u64,
     run: Run,
     put: Put,
-    kreads: &[u8],
-    kwrites: &[u8],
+    keyed_reads: &[u8],
+    keyed_writes: &[u8],
     memory: &[u8],
     readable: &mut [u8],
     writable: &mut [u8],
 ) -> Turn
     requires { ⌜ (run .keyed ≤ 1048576) × GoodLists (run .counts) (now readable) (now writable) ⌝ }
-    ensures { λ r. ⌜ ((e : Env) (s rd wr st ld stack ch fe pd log : List ℕ) (d : ℕ) (f : RegFile) (l : TableRows) → e .keys ≡
-        envOf l (given rd wr (now (kreads .entry)) (now (kwrites .entry)) st ld) → DoesFrom e s d (tainting e (baseIn base) out) run f (puts put f)
+    ensures { λ r. ⌜ ((e : Env) (s rd wr st ld stack ch fe pd log : List ℕ) (d : ℕ) (f : RegFile) (l : TableRows) →
+        e .keys ≡ keyEnvOf l (given rd wr (now («keyed_reads» .entry)) (now («keyed_writes» .entry)) st ld) →
+        DoesFrom e s d (tainting e (baseIn base) out) run f (puts put f)
         (lentTo (now (memory .entry)) stack ch fe (now (readable .entry)) (now (writable .entry)) pd log)
         (lentTo (now (memory .entry)) stack ch fe (now (readable .exit)) (now (writable .exit)) pd log) r) ⌝ }
 {
@@ -80,8 +79,8 @@ pub fn taint(
     let key = &memory[at..end];
     let plan = keys::authorise::plan_authorise(
         run.counts,
-        kreads,
-        kwrites,
+        keyed_reads,
+        keyed_writes,
         readable,
         writable,
         n,

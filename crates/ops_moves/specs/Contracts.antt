@@ -26,7 +26,7 @@ pub record Around : Type 0 where
   pub env : Env
   pub replies : List ℕ
   pub above : ℕ
-  pub keys : tables.Bufs
+  pub keys : tables.KeyBufs
   pub log : List ℕ
 
 -- a rule does this to memory and stack, whatever is around them
@@ -39,7 +39,8 @@ abbrev pub constantOf : Env → (d k : ℕ) → Machine → Rule
 constantOf e d k m = need (ltb k (length (e .consts))) 8 (next (regTo m d (getD (e .consts) k 0)))
 
 abbrev pub Constants : Run → List ℕ → (d k : ℕ) → Turn → Type 0
-Constants r consts d k t = (x : Around) (f : RegFile) (mem st : List ℕ) → x .env .consts ≡ wordsOf (length consts / 8) consts → DoesIn x r f mem st mem st (constantOf (x .env) d k) t
+Constants r consts d k t =
+    (x : Around) (f : RegFile) (mem st : List ℕ) → x .env .consts ≡ wordsOf (length consts / 8) consts → DoesIn x r f mem st mem st (constantOf (x .env) d k) t
 
 abbrev pub Pushes : Run → ℕ → (st st' : List ℕ) → Turn → Type 0
 Pushes r v st st' t = (x : Around) (f : RegFile) (mem : List ℕ) → DoesIn x r f mem st mem st' (λ m. pushing m v next) t
@@ -47,25 +48,36 @@ Pushes r v st st' t = (x : Around) (f : RegFile) (mem : List ℕ) → DoesIn x r
 abbrev pub Pops : Run → ℕ → List ℕ → Turn → Type 0
 Pops r d st t = (x : Around) (f : RegFile) (mem : List ℕ) → DoesIn x r f mem st mem st (λ m. popping m (λ v p. next (regTo p d v))) t
 
-abbrev pub Loads : Run → (d at : ℕ) → List ℕ → Turn → Type 0
-Loads r d at mem t = (x : Around) (f : RegFile) (st : List ℕ) → DoesIn x r f mem st mem st (λ m. need (inside (length (m .memory)) at 8) 6 (next (regTo m d (num (take 8 (drop at (m .memory))))))) t
+abbrev pub MemoryLoads : Run → (d at : ℕ) → List ℕ → Turn → Type 0
+MemoryLoads r d at mem t =
+    (x : Around) (f : RegFile) (st : List ℕ) →
+    DoesIn x r f mem st mem st (λ m. need (inside (length (m .memory)) at 8) 6 (next (regTo m d (num (take 8 (drop at (m .memory))))))) t
 
-abbrev pub Stores : Run → (at v : ℕ) → (mem mem' : List ℕ) → Turn → Type 0
-Stores r at v mem mem' t = (x : Around) (f : RegFile) (st : List ℕ) → DoesIn x r f mem st mem' st (λ m. need (inside (length (m .memory)) at 8) 6 (next (memoryTo m (storedAt (m .memory) at v)))) t
+abbrev pub MemoryStores : Run → (at v : ℕ) → (mem mem' : List ℕ) → Turn → Type 0
+MemoryStores r at v mem mem' t =
+    (x : Around) (f : RegFile) (st : List ℕ) →
+    DoesIn x r f mem st mem' st (λ m. need (inside (length (m .memory)) at 8) 6 (next (memoryTo m (storedAt (m .memory) at v)))) t
 
 abbrev pub Moves : Move → Run → (regs consts mem st mem' st' : List ℕ) → Turn → Type 0
-Moves o r regs consts mem st mem' st' t = (x : Around) → x .env .consts ≡ wordsOf (length consts / 8) consts → DoesIn x r (file regs) mem st mem' st' (moveOf (x .env) o) t
+Moves o r regs consts mem st mem' st' t =
+    (x : Around) → x .env .consts ≡ wordsOf (length consts / 8) consts → DoesIn x r (file regs) mem st mem' st' (moveOf (x .env) o) t
 
 -- ---- jumps
 
 abbrev pub JumpsTo : Run → ℕ → List ℕ → Turn → Type 0
-JumpsTo r target map t = (x : Around) (f : RegFile) (mem st : List ℕ) → length map ≡ 8192 → Holds map (x .env .starts) → DoesIn x r f mem st mem st (jumping (x .env) target) t
+JumpsTo r target map t =
+    (x : Around) (f : RegFile) (mem st : List ℕ) → length map ≡ 8192 → Holds map (x .env .starts) → DoesIn x r f mem st mem st (jumping (x .env) target) t
 
 abbrev pub Calls : Run → ℕ → (map st st' : List ℕ) → Turn → Type 0
-Calls r target map st st' t = (x : Around) (f : RegFile) (mem : List ℕ) → length map ≡ 8192 → Holds map (x .env .starts) → DoesIn x r f mem st mem st' (λ m. pushing m (m .pc) (jumping (x .env) target)) t
+Calls r target map st st' t =
+    (x : Around) (f : RegFile) (mem : List ℕ) → length map ≡ 8192 → Holds map (x .env .starts) →
+    DoesIn x r f mem st mem st' (λ m. pushing m (m .pc) (jumping (x .env) target)) t
 
 abbrev pub Returns : Run → (map st : List ℕ) → Turn → Type 0
-Returns r map st t = (x : Around) (f : RegFile) (mem : List ℕ) → length map ≡ 8192 → Holds map (x .env .starts) → DoesIn x r f mem st mem st (λ m. popping m (jumping (x .env))) t
+Returns r map st t =
+    (x : Around) (f : RegFile) (mem : List ℕ) → length map ≡ 8192 → Holds map (x .env .starts) →
+    DoesIn x r f mem st mem st (λ m. popping m (jumping (x .env))) t
 
 abbrev pub Jumps : Jump → Run → (regs map st st' : List ℕ) → Turn → Type 0
-Jumps o r regs map st st' t = (x : Around) (mem : List ℕ) → length map ≡ 8192 → Holds map (x .env .starts) → DoesIn x r (file regs) mem st mem st' (jumpOf (x .env) o) t
+Jumps o r regs map st st' t =
+    (x : Around) (mem : List ℕ) → length map ≡ 8192 → Holds map (x .env .starts) → DoesIn x r (file regs) mem st mem st' (jumpOf (x .env) o) t

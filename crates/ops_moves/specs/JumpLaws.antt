@@ -21,7 +21,7 @@ use Rattle.machine.specs.SoundLaws.{place-sound}
 use Rattle.machine.specs.declared.run.Run.{Run}
 use Rattle.machine.specs.declared.turn.Turn.{Turn}
 use Rattle.ops_moves.specs.Contracts.{Around, DoesIn, JumpsTo}
-use Rattle.ops_moves.specs.MoveLaws.{goes-on}
+use Rattle.ops_moves.specs.MoveLaws.{move-goes-on}
 
 -- a marked place is within the map
 within-map : (map : List ℕ) (p : ℕ) → marked map p ≡ true → p / 8 < length map
@@ -39,7 +39,7 @@ module _ (r : Run) (target : ℕ) (map : List ℕ) (b : Bool) (e : b ≡ marked 
       let on = place-sound so target (omega arith) in
       need-on 7
       (sym (holds .at target) ∙ sym e ∙ k)
-      (goes-on x (withPlace r target) f mem st l on)
+      (move-goes-on x (withPlace r target) f mem st l on)
 
   pub jumps-not : b ≡ false → JumpsTo r target map (stops r 7)
   jumps-not k x f mem st lm holds l so =

@@ -1,3 +1,5 @@
+-- what the code claims
 pub mod Contracts
+-- laws
 pub mod MoveLaws
 pub mod JumpLaws

@@ -31,7 +31,7 @@ use Rattle.machine.specs.SoundLaws.{depth-sound, memory-sound, stack-sound}
 use Rattle.machine.specs.StackLaws.{stack-length, stack-pushed, stack-popped}
 use Rattle.machine.specs.declared.run.Run.{Run}
 use Rattle.machine.specs.declared.turn.Turn.{Turn}
-use Rattle.ops_moves.specs.Contracts.{Around, DoesIn, Constants, Loads, Stores}
+use Rattle.ops_moves.specs.Contracts.{Around, DoesIn, Constants, MemoryLoads, MemoryStores}
 
 -- ---- constants
 
@@ -76,7 +76,8 @@ push-full size depth p e k = go (ltb depth size) refl (sym k ∙ e)
 pop-told : (st : List ℕ) (depth v : ℕ) (p : Popped) → p ≡ popOf st depth → p ≡ popped.Word v → (depth ≡ 0 → ⊥) × (v ≡ getD st (depth - 1) 0)
 pop-told st depth v p e k = go (eqb depth 0) refl (sym k ∙ e)
   where
-    go : (t : Bool) → eqb depth 0 ≡ t → popped.Word v ≡ pick t popped.StackUnderflow (popped.Word (getD st (depth - 1) 0)) → (depth ≡ 0 → ⊥) × (v ≡ getD st (depth - 1) 0)
+    go : (t : Bool) → eqb depth 0 ≡ t → popped.Word v ≡ pick t popped.StackUnderflow (popped.Word (getD st (depth - 1) 0)) →
+        (depth ≡ 0 → ⊥) × (v ≡ getD st (depth - 1) 0)
     go true q z = absurd (let w : _≡_ {A = ℕ} 0 1 = cc in omega arith)
     go false q z = (eqb-false depth 0 q, cc)
 
@@ -87,8 +88,8 @@ pop-none st depth p e k = go (eqb depth 0) refl (sym k ∙ e)
     go true q z = eqb-true depth 0 q
     go false q z = absurd (let w : _≡_ {A = ℕ} 0 1 = cc in omega arith)
 
-pub pop-some : (st : List ℕ) (depth v : ℕ) (p : Popped) → p ≡ popOf st depth → p ≡ popped.Word v → 1 ≤ depth
-pop-some st depth v p e k = let (h, _) = pop-told st depth v p e k in omega arith
+pub pop-word : (st : List ℕ) (depth v : ℕ) (p : Popped) → p ≡ popOf st depth → p ≡ popped.Word v → 1 ≤ depth
+pop-word st depth v p e k = let (h, _) = pop-told st depth v p e k in omega arith
 
 module _ (x : Around) (r : Run) (f : RegFile) (mem st st' : List ℕ) (v : ℕ) (p : Pushed) (e : p ≡ pushOf (length st) (r .depth)) (u : st' ≡ set st (r .depth) v) (rule : Machine → Rule) where
   -- onto the stack, and on by the rule
@@ -114,7 +115,8 @@ module _ (x : Around) (r : Run) (f : RegFile) (mem st st' : List ℕ) (v : ℕ) 
 
 module _ (x : Around) (r : Run) (f : RegFile) (mem st : List ℕ) (p : Popped) (e : p ≡ popOf st (r .depth)) (rule : ℕ → Machine → Rule) where
   -- off the stack, and on by the rule
-  pub pops-on : (v : ℕ) (t : Turn) → p ≡ popped.Word v → DoesIn x (withDepth r (r .depth - 1)) f mem st mem st (rule v) t → DoesIn x r f mem st mem st (λ m. popping m rule) t
+  pub pops-on : (v : ℕ) (t : Turn) → p ≡ popped.Word v → DoesIn x (withDepth r (r .depth - 1)) f mem st mem st (rule v) t →
+      DoesIn x r f mem st mem st (λ m. popping m rule) t
   unfolding machineOf
   pops-on v t k then l so =
       let (h, i) = pop-told st (r .depth) v p e k in
@@ -128,9 +130,9 @@ module _ (x : Around) (r : Run) (f : RegFile) (mem st : List ℕ) (p : Popped) (
       rw z (pass-stops 5 (λ n. omega arith))
 
 -- the run goes on as it is, or with a word put
-pub goes-on : (x : Around) (r : Run) (f : RegFile) (mem st : List ℕ) → DoesIn x r f mem st mem st next (goes r)
+pub move-goes-on : (x : Around) (r : Run) (f : RegFile) (mem st : List ℕ) → DoesIn x r f mem st mem st next (goes r)
 unfolding machineOf
-goes-on x r f mem st l so = goes-next l refl so
+move-goes-on x r f mem st l so = goes-next l refl so
 
 pub sets-on : (x : Around) (r : Run) (f : RegFile) (mem st : List ℕ) (d v : ℕ) → DoesIn x r f mem st mem st (λ m. next (regTo m d v)) (sets r d v)
 unfolding machineOf
@@ -142,36 +144,38 @@ module _ (r : Run) (d at : ℕ) (mem : List ℕ) (p : Load) (e : p ≡ loadOf me
   load-told : (v : ℕ) → p ≡ load.Word v → (inside (length mem) at 8 ≡ true) × (v ≡ num (take 8 (drop at mem)))
   load-told v k = go (inside (length mem) at 8) refl (sym k ∙ e)
     where
-      go : (t : Bool) → inside (length mem) at 8 ≡ t → load.Word v ≡ pick t (load.Word (num (take 8 (drop at mem)))) load.BadMemory → (inside (length mem) at 8 ≡ true) × (v ≡ num (take 8 (drop at mem)))
+      go : (t : Bool) → inside (length mem) at 8 ≡ t → load.Word v ≡ pick t (load.Word (num (take 8 (drop at mem)))) load.BadMemory →
+          (inside (length mem) at 8 ≡ true) × (v ≡ num (take 8 (drop at mem)))
       go true q z = (q, cc)
       go false q z = absurd (let w : _≡_ {A = ℕ} 0 1 = cc in omega arith)
 
   load-outside : p ≡ load.BadMemory → inside (length mem) at 8 ≡ false
   load-outside k = go (inside (length mem) at 8) refl (sym k ∙ e)
     where
-      go : (t : Bool) → inside (length mem) at 8 ≡ t → load.BadMemory ≡ pick t (load.Word (num (take 8 (drop at mem)))) load.BadMemory → inside (length mem) at 8 ≡ false
+      go : (t : Bool) → inside (length mem) at 8 ≡ t → load.BadMemory ≡ pick t (load.Word (num (take 8 (drop at mem)))) load.BadMemory →
+          inside (length mem) at 8 ≡ false
       go true q z = absurd (let w : _≡_ {A = ℕ} 0 1 = cc in omega arith)
       go false q z = q
 
-  pub loads-on : (v : ℕ) → p ≡ load.Word v → Loads r d at mem (sets r d v)
+  pub loads-on : (v : ℕ) → p ≡ load.Word v → MemoryLoads r d at mem (sets r d v)
   unfolding machineOf
   loads-on v k x f st l so =
       let (q, w) = load-told v k in
       need-on 6 q
       (rw (← w) (sets-on x r f mem st d v l so))
 
-  pub loads-not : p ≡ load.BadMemory → Loads r d at mem (stops r 6)
+  pub loads-not : p ≡ load.BadMemory → MemoryLoads r d at mem (stops r 6)
   unfolding machineOf
   loads-not k x f st l so = need-stops 6 (omega arith) (load-outside k)
 
 module _ (r : Run) (at v : ℕ) (mem mem' : List ℕ) (ok : Bool) (e : ok ≡ inside (length mem) at 8) where
-  pub stores-on : ok ≡ true → mem' ≡ storedAt mem at v → length mem' ≡ length mem → Stores r at v mem mem' (goes r)
+  pub stores-on : ok ≡ true → mem' ≡ storedAt mem at v → length mem' ≡ length mem → MemoryStores r at v mem mem' (goes r)
   unfolding machineOf
   stores-on k u lu x f st l so =
       let on = memory-sound so mem' lu in
       need-on 6 (sym e ∙ k)
-      (rw (← u) (goes-on x r f mem' st l on))
+      (rw (← u) (move-goes-on x r f mem' st l on))
 
-  pub stores-not : ok ≡ false → Stores r at v mem mem' (stops r 6)
+  pub stores-not : ok ≡ false → MemoryStores r at v mem mem' (stops r 6)
   unfolding machineOf
   stores-not k x f st l so = need-stops 6 (omega arith) (sym e ∙ k)

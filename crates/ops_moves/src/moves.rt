@@ -1,7 +1,7 @@
 // Constants, the stack and memory.
 ghost use Prim.Native.Nat.{_≤_};
 ghost use lib.ListN.{length};
-ghost use Rattle.ops_moves.specs.Contracts.{Moves, Constants, Pushes, Pops, Loads, Stores};
+ghost use Rattle.ops_moves.specs.Contracts.{Moves, Constants, Pushes, Pops, MemoryLoads, MemoryStores};
 use machine::action::Move;
 use machine::run::Run;
 use machine::turn::Turn;
@@ -50,7 +50,7 @@ fn pop(run: Run, stack: &[u64], d: u8) -> Turn
 }
 
 fn load(run: Run, memory: &[u8], d: u8, at: u64) -> Turn
-    ensures { λ r. ⌜ Loads run d at (now (memory .entry)) r ⌝ }
+    ensures { λ r. ⌜ MemoryLoads run d at (now (memory .entry)) r ⌝ }
 {
     let l = state::memory::mem_load(memory, at);
     match l {
@@ -60,7 +60,7 @@ fn load(run: Run, memory: &[u8], d: u8, at: u64) -> Turn
 }
 
 fn store(run: Run, memory: &mut [u8], at: u64, v: u64) -> Turn
-    ensures { λ r. ⌜ Stores run at v (now (memory .entry)) (now (memory .exit)) r ⌝ }
+    ensures { λ r. ⌜ MemoryStores run at v (now (memory .entry)) (now (memory .exit)) r ⌝ }
 {
     if state::memory::mem_store(memory, at, v) {
         return machine::turn::go_on(run);

@@ -9,7 +9,7 @@ use lib.ListN.{length, take, drop, replicate, length-take, length-drop, length-r
 use lib.Seq.{length-take-le, drop-at, drop-drop}
 use borrow.Author.Tests.{leb-true}
 use Rattle.words.specs.Choice.{pick, bit}
-use Rattle.effects.specs.Log.{Effect, logOf, Small}
+use Rattle.effects.specs.Log.{Effect, logOf, FitTrailers}
 use Rattle.effects.specs.LogLaws.{length-log}
 use Rattle.effects.specs.ReadBack.{effectsOf}
 use Rattle.effects.specs.LogTheorems.{appended-log, read-back-log}
@@ -70,11 +70,11 @@ module _ (x : Effect) (run : Run) (t u : List ℕ) (g : Grown) (a : Appended x (
     room-is : leb (length (logOf (x ∷ es))) (e .log-room) ≡ leb size (length t)
     room-is = rw (size-is, so .sized .log)
 
-    module _ (m : ℕ) (k : g ≡ grown.End m) (few : run .events < run .posted) (kind : x .kind ≤ 1) (sm : Small (x ∷ [])) where
+    module _ (m : ℕ) (k : g ≡ grown.End m) (few : run .events < run .posted) (kind : x .kind ≤ 1) (sm : FitTrailers (x ∷ [])) where
       ended : Appended x (run .log) t u (grown.End m)
       ended = subst (λ (o : Grown). Appended x (run .log) t u o) k a
 
-      small : Small (x ∷ es)
+      small : FitTrailers (x ∷ es)
       small = (sm .0, sm .1, so .logged .small)
 
       bytes-are : take m u ≡ logOf (x ∷ es)
@@ -116,7 +116,8 @@ module _ (x : Effect) (run : Run) (t u : List ℕ) (g : Grown) (a : Appended x (
     turned = λ e s d f b l so. need-stops 48 (omega arith) (room-is e s d b so ∙ full k);
   }
 
-  pub appended-goes : (m : ℕ) → g ≡ grown.End m → run .events < run .posted → x .kind ≤ 1 → Small (x ∷ []) → Comes (λ e. posting e x) run t u (goes (withLog run m (run .events + x .kind)))
+  pub appended-goes : (m : ℕ) → g ≡ grown.End m → run .events < run .posted → x .kind ≤ 1 → FitTrailers (x ∷ []) →
+      Comes (λ e. posting e x) run t u (goes (withLog run m (run .events + x .kind)))
   unfolding machineOf
   appended-goes m k few kind sm = record {
     turned = λ e s d f b l so.

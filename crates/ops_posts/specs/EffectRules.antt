@@ -45,4 +45,5 @@ pub record Comes (rule : Env → Machine → Rule) (run : Run) (t u : List ℕ) 
 
 -- the same of a Send or Emit, from these registers and this memory
 abbrev pub Posts : Post → Run → (regs memory t u : List ℕ) → Turn → Type 0
-Posts o run regs mem t u r = (e : Env) (s stack : List ℕ) (d : ℕ) (ks : tables.Bufs) → Does e s d (postOf e o) run (file regs) (bufs mem stack ks t) (bufs mem stack ks u) r
+Posts o run regs mem t u r =
+    (e : Env) (s stack : List ℕ) (d : ℕ) (ks : tables.KeyBufs) → Does e s d (postOf e o) run (file regs) (bufs mem stack ks t) (bufs mem stack ks u) r

@@ -11,7 +11,7 @@ use Rattle.state.specs.RegionLaws.{missed, found, part-is}
 use Rattle.state.specs.Memory.{regionOf}
 use Rattle.state.specs.declared.memory.Region.{Region}
 use Rattle.state.specs.declared.memory.Region.the-variants as region
-use Rattle.effects.specs.Log.{Effect, Small, logOf}
+use Rattle.effects.specs.Log.{Effect, FitTrailers, logOf}
 use Rattle.effects.specs.Targets.{targetOf}
 use Rattle.effects.specs.Counts.{events}
 use Rattle.machine.specs.Machine.{Env, Machine, postedTo, bare}
@@ -51,7 +51,8 @@ module _ (x : Effect) (run : Run) (t : List ℕ) where
   unfolding machineOf
   total-over h = record { turned = λ e s d f b l so. need-stops 11 (omega arith) (lt-leb sum 1048576 h) }
 
-  pub total-comes : (p : ℕ) (u : List ℕ) (r : Turn) → sum ≤ 1048576 → ((es : List Effect) → Small es → take (run .log) t ≡ logOf es → run .events ≡ events es → p ≡ laterPrice x es)
+  pub total-comes : (p : ℕ) (u : List ℕ) (r : Turn) → sum ≤ 1048576 →
+      ((es : List Effect) → FitTrailers es → take (run .log) t ≡ logOf es → run .events ≡ events es → p ≡ laterPrice x es)
       → Comes (λ e m. pay p (posting e x m)) (withPosted run sum) t u r → Comes (λ e. totalling e x) run t u r
   unfolding machineOf
   total-comes p u r h price c = record {

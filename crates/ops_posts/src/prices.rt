@@ -6,7 +6,7 @@ ghost use Prim.Native.Nat.{_≤_};
 ghost use lib.Dec.{leb};
 ghost use lib.ListN.{length, take};
 ghost use Rattle.words.specs.Choice.{pick};
-ghost use Rattle.effects.specs.Log.{Effect, Small, logOf};
+ghost use Rattle.effects.specs.Log.{Effect, FitTrailers, logOf};
 ghost use Rattle.effects.specs.Targets.{targetOf};
 ghost use Rattle.effects.specs.Counts.{events};
 ghost use Rattle.machine.specs.PostRules.{targetPrice};
@@ -19,7 +19,7 @@ const MINT: u64 = 0x4D494E5400000000;
 // A target that the log does not hold, if it holds any: 227000.
 fn target_price(log: &[u8], end: usize, kind: u8, target: &[u8]) -> u64
     requires { ⌜ end ≤ length (now log) ⌝ }
-    ensures { λ r. ⌜ (r ≤ 227000) × ((es : List Effect) → Small es → take end (now (log .entry)) ≡ logOf es → r ≡
+    ensures { λ r. ⌜ (r ≤ 227000) × ((es : List Effect) → FitTrailers es → take end (now (log .entry)) ≡ logOf es → r ≡
         targetPrice (some (record { kind = kind; bytes = now (target .entry) })) es) ⌝ }
 {
     if effects::targets::known(log, end, kind, target) {
@@ -34,7 +34,7 @@ fn target_price(log: &[u8], end: usize, kind: u8, target: &[u8]) -> u64
 // Of events only a mint of at least 40 bytes has a target, its first 32.
 fn mint_price(log: &[u8], end: usize, word: u64, bytes: &[u8]) -> u64
     requires { ⌜ end ≤ length (now log) ⌝ }
-    ensures { λ r. ⌜ (r ≤ 227000) × ((es : List Effect) → Small es → take end (now (log .entry)) ≡ logOf es → r ≡
+    ensures { λ r. ⌜ (r ≤ 227000) × ((es : List Effect) → FitTrailers es → take end (now (log .entry)) ≡ logOf es → r ≡
         targetPrice (targetOf (effect 1 word (now (bytes .entry)))) es) ⌝ }
 {
     if word != MINT {
@@ -59,7 +59,7 @@ fn event_price(events: u64) -> u64
 // A transfer costs by its target; an event also by its bytes and the events before it. One sum, as nothing comes between these prices.
 pub fn price(run: Run, log: &[u8], kind: u8, word: u64, bytes: &[u8]) -> u64
     requires { ⌜ (run .log ≤ length (now log)) × (kind ≤ 1) × (length (now bytes) ≤ 65536) ⌝ }
-    ensures { λ r. ⌜ ((es : List Effect) → Small es → take (run .log) (now (log .entry)) ≡ logOf es → run .events ≡ events es → r ≡
+    ensures { λ r. ⌜ ((es : List Effect) → FitTrailers es → take (run .log) (now (log .entry)) ≡ logOf es → run .events ≡ events es → r ≡
         laterPrice (effect kind word (now (bytes .entry))) es) ⌝ }
 {
     if kind == 0 {

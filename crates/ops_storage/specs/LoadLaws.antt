@@ -8,7 +8,7 @@ use lib.ListN.{length}
 use Rattle.state.specs.declared.regs.RegFile.{RegFile}
 use Rattle.keys.specs.Values.{mayLoad, look}
 use Rattle.keys.specs.Steps.{fits, loaded}
-use Rattle.keys.specs.Lent.{Given, envOf, keysOf, roomsOf}
+use Rattle.keys.specs.Lent.{Given, keyEnvOf, keysOf, roomsOf}
 use Rattle.keys.specs.Sound.{Leaves}
 use Rattle.keys.specs.Lent as tables
 use Rattle.keys.specs.Known as known
@@ -33,21 +33,21 @@ module _ (e : Env) (s : List ℕ) (d : ℕ) (f : RegFile) (l : TableRows) (g : G
   ks = keysOf (r .counts) (b .keys)
 
   -- the tables after a load
-  abbrev fetchedTo : List ℕ → tables.Bufs
-  fetchedTo u = tables.bufs (b .keys .changes) u (b .keys .may-read) (b .keys .may-write) (b .keys .paid)
+  abbrev fetchedTo : List ℕ → tables.KeyBufs
+  fetchedTo u = tables.keyBufs (b .keys .changes) u (b .keys .may-read) (b .keys .may-write) (b .keys .paid)
 
   -- the rule's parts over what a run is given about keys
-  abbrev may : known.Env → Bool
+  abbrev may : known.KeyEnv → Bool
   may x = mayLoad (x .reads) (x .writes) (ks .may-read) k
 
-  abbrev after : known.Env → Machine
+  abbrev after : known.KeyEnv → Machine
   after x = regTo (keysTo (bare (machineOf s r f b)) (loaded x ks k)) to (look x ks k .value)
 
-  abbrev fetching : known.Env → Rule
+  abbrev fetching : known.KeyEnv → Rule
   fetching x = need (fits (e .rooms) (loaded x ks k)) 48 (next (after x))
 
-  abbrev x : known.Env
-  x = envOf l g
+  abbrev x : known.KeyEnv
+  x = keyEnvOf l g
 
   module _ (right : Bool) (q : right ≡ may x) where
     pub load-denied : (a : Bufs) (t : Turn) → t ≡ stops r 12 → right ≡ false → e .keys ≡ x → Does e s d (loading e to k) r f b a t
@@ -55,7 +55,8 @@ module _ (e : Env) (s : List ℕ) (d : ℕ) (f : RegFile) (l : TableRows) (g : G
     load-denied a t w o = λ ek sixteen so. rw w (right-denied ek may fetching q o)
 
     module _ (y : right ≡ true) (room : Bool) (p : room ≡ fits (roomsOf (b .keys)) (loaded x ks k)) where
-      allowed : (a : Bufs) (t : Turn) → e .keys ≡ x → Played e s d f (r .meter .used) (r .fetches) (fetching x) t a → Played e s d f (r .meter .used) (r .fetches) (loading e to k (bare (machineOf s r f b))) t a
+      allowed : (a : Bufs) (t : Turn) → e .keys ≡ x → Played e s d f (r .meter .used) (r .fetches) (fetching x) t a →
+          Played e s d f (r .meter .used) (r .fetches) (loading e to k (bare (machineOf s r f b))) t a
       unfolding loading machineOf
       allowed a t ek h = right-given ek may fetching q y h
 

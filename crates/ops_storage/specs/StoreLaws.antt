@@ -9,7 +9,7 @@ use Rattle.state.specs.declared.regs.RegFile.{RegFile}
 use Rattle.keys.specs.Values.{mayStore}
 use Rattle.keys.specs.Steps.{fits, stored, storePriceAt}
 use Rattle.keys.specs.StorePlans.{storePlan}
-use Rattle.keys.specs.Lent.{Given, envOf, keysOf, roomsOf}
+use Rattle.keys.specs.Lent.{Given, keyEnvOf, keysOf, roomsOf}
 use Rattle.keys.specs.Sound.{Leaves}
 use Rattle.keys.specs.Lent as tables
 use Rattle.keys.specs.Known as known
@@ -45,24 +45,24 @@ module _ (e : Env) (s : List ℕ) (d : ℕ) (f : RegFile) (l : TableRows) (g : G
   j = r .fetches
 
   -- the tables after a store
-  abbrev storedTo : (changes fetched paid : List ℕ) → tables.Bufs
-  storedTo uc uf up = tables.bufs uc uf (b .keys .may-read) (b .keys .may-write) up
+  abbrev storedTo : (changes fetched paid : List ℕ) → tables.KeyBufs
+  storedTo uc uf up = tables.keyBufs uc uf (b .keys .may-read) (b .keys .may-write) up
 
   -- the rule's parts over what a run is given about keys
-  abbrev may : known.Env → Bool
+  abbrev may : known.KeyEnv → Bool
   may x = mayStore (x .writes) (ks .may-write) k
 
-  abbrev after : known.Env → Machine
+  abbrev after : known.KeyEnv → Machine
   after x = keysTo before (stored x ks k v)
 
-  abbrev keeping : known.Env → Rule
+  abbrev keeping : known.KeyEnv → Rule
   keeping x = need (fits (e .rooms) (stored x ks k v)) 48 (next (after x))
 
-  abbrev paying : known.Env → Rule
+  abbrev paying : known.KeyEnv → Rule
   paying x = pay (storePriceAt x ks k v) (keeping x)
 
-  abbrev x : known.Env
-  x = envOf l g
+  abbrev x : known.KeyEnv
+  x = keyEnvOf l g
 
   module _ (right : Bool) (q : right ≡ may x) where
     pub store-denied : (a : Bufs) (t : Turn) → t ≡ stops r 12 → right ≡ false → e .keys ≡ x → Does e s d (storing e k v) r f b a t
@@ -90,12 +90,14 @@ module _ (e : Env) (s : List ℕ) (d : ℕ) (f : RegFile) (l : TableRows) (g : G
       store-unpaid a t w o = λ ek sixteen so. rw w (allowed a (stops r 1) ek (pay-stops (pays-not so price price-is o)))
 
       module _ (rest : Run) (o : bill ≡ paid.Done rest) where
-        settled : (a : Bufs) (t : Turn) → e .keys ≡ x → Sound e s d r b → Played e s d f (u + price) j (keeping x) t a → Played e s d f u j (storing e k v before) t a
+        settled : (a : Bufs) (t : Turn) → e .keys ≡ x → Sound e s d r b → Played e s d f (u + price) j (keeping x) t a →
+            Played e s d f u j (storing e k v before) t a
         unfolding machineOf
         settled a t ek so z = allowed a t ek (pay-on (pays-on so price price-is o .passed) z)
 
         pub store-full : (a : Bufs) (t : Turn) → t ≡ stops rest 48 → plan .room ≡ false → e .keys ≡ x → Does e s d (storing e k v) r f b a t
-        store-full a t w n = λ ek sixteen so. rw w (settled a (stops rest 48) ek so (need-stops 48 (omega arith) (room-is e b (stored x ks k v) (so .sized .rooms) fits-is n)))
+        store-full a t w n =
+            λ ek sixteen so. rw w (settled a (stops rest 48) ek so (need-stops 48 (omega arith) (room-is e b (stored x ks k v) (so .sized .rooms) fits-is n)))
 
         module _ (n : Counts) (uc uf up : List ℕ) (lc : length uc ≡ length (b .keys .changes)) (lf : length uf ≡ length (b .keys .fetched)) (lp : length up ≡ length (b .keys .paid)) (left : Leaves (stored x ks k v) n (storedTo uc uf up)) where
           same : roomsOf (storedTo uc uf up) ≡ roomsOf (b .keys)

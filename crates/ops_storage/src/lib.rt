@@ -4,7 +4,7 @@ ghost use mathlib.Core.List.{List};
 ghost use Prim.Native.Nat.{ℕ};
 ghost use Rattle.tables.specs.Table.{Table};
 ghost use Rattle.state.specs.Regs.{file};
-ghost use Rattle.keys.specs.Lent.{bufs, given, envOf};
+ghost use Rattle.keys.specs.Lent.{keyBufs, given, keyEnvOf};
 ghost use Rattle.keys.specs.Sound.{Loader, Good};
 ghost use Rattle.machine.specs.Machine.{Env};
 ghost use Rattle.machine.specs.StorageRules.{accessOf};
@@ -47,10 +47,10 @@ pub fn access(
     writable: &[u8],
     paid: &mut [u8],
 ) -> Turn
-    requires { ⌜ Table 40 (lent .store) (now store) × Loader (lent .present) (lent .loader) (now loader) ×
-        Good (run .counts) (bufs (now changes) (now fetched) (now readable) (now writable) (now paid)) ⌝ }
+    requires { ⌜ Table 40 (lent .store) (now store) × Loader (lent .«has_loader») (lent .loader) (now loader) ×
+        Good (run .counts) (keyBufs (now changes) (now fetched) (now readable) (now writable) (now paid)) ⌝ }
     ensures { λ r. ⌜ ((e : Env) (s kr kw stack log : List ℕ) (d : ℕ) → e .keys ≡
-        envOf lent (given (now (reads .entry)) (now (writes .entry)) kr kw (now (store .entry)) (now (loader .entry))) →
+        keyEnvOf lent (given (now (reads .entry)) (now (writes .entry)) kr kw (now (store .entry)) (now (loader .entry))) →
         Does e s d (accessOf e o) run (file (now (regs .entry)))
         (lentTo (now (memory .entry)) stack (now (changes .entry)) (now (fetched .entry)) (now (readable .entry)) (now (writable .entry))
         (now (paid .entry)) log) (lentTo (now (memory .entry)) stack (now (changes .exit)) (now (fetched .exit)) (now (readable .entry))

@@ -6,7 +6,7 @@ ghost use lib.ListN.{length};
 ghost use Rattle.words.specs.Bytes.{num};
 ghost use Rattle.tables.specs.Table.{Table};
 ghost use Rattle.state.specs.declared.regs.RegFile.{RegFile};
-ghost use Rattle.keys.specs.Lent.{bufs, given, envOf};
+ghost use Rattle.keys.specs.Lent.{keyBufs, given, keyEnvOf};
 ghost use Rattle.keys.specs.Sound.{Loader, Good};
 ghost use Rattle.machine.specs.Machine.{Env};
 ghost use Rattle.machine.specs.StorageRules.{loading};
@@ -30,10 +30,10 @@ pub fn load_key(
     readable: &[u8],
     key: &[u8],
 ) -> Turn
-    requires { ⌜ Table 40 (lent .store) (now store) × Loader (lent .present) (lent .loader) (now loader) × ((mw : List ℕ) × (pd : List ℕ) ×
-        Good (run .counts) (bufs (now changes) (now fetched) (now readable) mw pd)) × (length (now key) ≡ 32) ⌝ }
+    requires { ⌜ Table 40 (lent .store) (now store) × Loader (lent .«has_loader») (lent .loader) (now loader) × ((mw : List ℕ) × (pd : List ℕ) ×
+        Good (run .counts) (keyBufs (now changes) (now fetched) (now readable) mw pd)) × (length (now key) ≡ 32) ⌝ }
     ensures { λ r. ⌜ ((e : Env) (s kr kw mw pd memory stack log : List ℕ) (d : ℕ) (f : RegFile) → e .keys ≡
-        envOf lent (given (now (reads .entry)) (now (writes .entry)) kr kw (now (store .entry)) (now (loader .entry))) →
+        keyEnvOf lent (given (now (reads .entry)) (now (writes .entry)) kr kw (now (store .entry)) (now (loader .entry))) →
         Does e s d (loading e to (num (now (key .entry)))) run f
         (lentTo memory stack (now (changes .entry)) (now (fetched .entry)) (now (readable .entry)) mw pd log)
         (lentTo memory stack (now (changes .entry)) (now (fetched .exit)) (now (readable .entry)) mw pd log) r) ⌝ }

@@ -6,7 +6,7 @@ ghost use lib.ListN.{length};
 ghost use Rattle.words.specs.Bytes.{num};
 ghost use Rattle.tables.specs.Table.{Table};
 ghost use Rattle.state.specs.declared.regs.RegFile.{RegFile};
-ghost use Rattle.keys.specs.Lent.{bufs, given, envOf};
+ghost use Rattle.keys.specs.Lent.{keyBufs, given, keyEnvOf};
 ghost use Rattle.keys.specs.Sound.{Loader, Good};
 ghost use Rattle.machine.specs.Machine.{Env};
 ghost use Rattle.machine.specs.StorageRules.{storing};
@@ -31,10 +31,10 @@ pub fn store_key(
     key: &[u8],
     v: u64,
 ) -> Turn
-    requires { ⌜ Table 40 (lent .store) (now store) × Loader (lent .present) (lent .loader) (now loader) × ((mr : List ℕ) ×
-        Good (run .counts) (bufs (now changes) (now fetched) mr (now writable) (now paid))) × (length (now key) ≡ 32) ⌝ }
+    requires { ⌜ Table 40 (lent .store) (now store) × Loader (lent .«has_loader») (lent .loader) (now loader) × ((mr : List ℕ) ×
+        Good (run .counts) (keyBufs (now changes) (now fetched) mr (now writable) (now paid))) × (length (now key) ≡ 32) ⌝ }
     ensures { λ r. ⌜ ((e : Env) (s reads kr kw mr memory stack log : List ℕ) (d : ℕ) (f : RegFile) → e .keys ≡
-        envOf lent (given reads (now (writes .entry)) kr kw (now (store .entry)) (now (loader .entry))) →
+        keyEnvOf lent (given reads (now (writes .entry)) kr kw (now (store .entry)) (now (loader .entry))) →
         Does e s d (storing e (num (now (key .entry))) v) run f
         (lentTo memory stack (now (changes .entry)) (now (fetched .entry)) mr (now (writable .entry)) (now (paid .entry)) log)
         (lentTo memory stack (now (changes .exit)) (now (fetched .exit)) mr (now (writable .entry)) (now (paid .exit)) log) r) ⌝ }

@@ -1,1 +1,2 @@
+-- laws
 pub mod ZeroLaws

@@ -8,7 +8,7 @@ use lib.ListN.{length}
 use Rattle.words.specs.Choice.{pick, either}
 use Rattle.words.specs.Lists.{member}
 use Rattle.meter.specs.Prices.{dispatchPrice}
-use Rattle.tables.specs.Rows.{Row, rows, lookup, isSome}
+use Rattle.tables.specs.Rows.{Row, rows, lookup}
 use Rattle.keys.specs.Known.{Keys}
 use Rattle.keys.specs.Values.{has}
 use Rattle.keys.specs.Lent.{loaderOf}
@@ -21,9 +21,9 @@ use Rattle.words.specs.declared.refusal.Refusal.{Refusal}
 use Rattle.machine.specs.Turns.{End, halted, faulted, runOf}
 use Rattle.opening.specs.Opening.{Input, Lent, Opening, refuse, start, envOf, machineFor, openingOf}
 use Rattle.interp.specs.Call.{called, haltedAs, keptOf, refusedAs, ending, running, callOf}
-use Rattle.promises.specs.OpenedLaws.{Starts, starts-from, Numbered, refusals-numbered}
+use Rattle.promises.specs.OpenedLaws.{StartedFrom, starts-from, Numbered, refusals-numbered}
 use Rattle.promises.specs.Accounts.{billOf, storedIn}
-use Rattle.machine.specs.TraceLaws.{Runs, runs}
+use Rattle.machine.specs.TraceLaws.{Traced, runs}
 use Rattle.promises.specs.BillLaws.{run-counts, fetchesOf, run-fetches}
 use Rattle.promises.specs.RightsLaws.{Allows, run-righted, run-stored}
 use Rattle.promises.specs.Grown.{loaderRows, startIn}
@@ -39,10 +39,10 @@ starts-same ss ls true = refl
 starts-same ss ls false = refl
 
 none-before : (cs : List Row) (j : ℕ) (t : Bool) → cs ≡ [] → either (has j cs) t ≡ true → t ≡ true
-unfolding lookup isSome
+unfolding lookup
 none-before cs j t q h = rw q at h
 
-module _ (x : Input) (b : Lent) (c : Container) (e : Env) (m : Machine) (s : Starts x b e m) (k : c ≡ s .container) where
+module _ (x : Input) (b : Lent) (c : Container) (e : Env) (m : Machine) (s : StartedFrom x b e m) (k : c ≡ s .container) where
   limit-is : e .limit ≡ x .limit
   unfolding envOf
   limit-is = ap (λ (y : Env). y .limit) (s .env)
@@ -62,11 +62,11 @@ module _ (x : Input) (b : Lent) (c : Container) (e : Env) (m : Machine) (s : Sta
   starts-are : startIn (e .keys) ≡ startAt x
   unfolding envOf startIn startAt
   starts-are =
-      ap (λ (y : Env). startIn (y .keys)) (s .env) ∙ starts-same (rows 40 (length (x .store) / 40) (x .store)) (rows 40 (length (x .loader) / 40) (x .loader)) (x .present)
+      ap (λ (y : Env). startIn (y .keys)) (s .env) ∙ starts-same (rows 40 (length (x .store) / 40) (x .store)) (rows 40 (length (x .loader) / 40) (x .loader)) (x .«has_loader»)
 
   -- nothing is authorised yet
   allows-first : Allows e (e .keys .writes) (m .keys)
-  unfolding lookup isSome
+  unfolding lookup
   allows-first = rw keys-first (λ j h. declared (member j (e .keys .writes)) h)
     where
       declared : (t : Bool) → either t false ≡ true → t ≡ true
@@ -76,7 +76,8 @@ module _ (x : Input) (b : Lent) (c : Container) (e : Env) (m : Machine) (s : Sta
   grew-first : Growth (dispatchPrice (length (c .code))) (e .keys) (m .keys) (m .used)
   grew-first = rw (keys-first, used-first) (none-grew (dispatchPrice (length (c .code))) (e .keys))
 
-  halted-promised : (p : Machine) → runOf (suc (e .limit - m .used)) e m ≡ halted p → Runs e m (ranOf (start e m)) (halted p) → Halted x b (dispatchPrice (length (c .code))) (start e m) (called (haltedAs p) (keptOf p b))
+  halted-promised : (p : Machine) → runOf (suc (e .limit - m .used)) e m ≡ halted p → Traced e m (ranOf (start e m)) (halted p) →
+      Halted x b (dispatchPrice (length (c .code))) (start e m) (called (haltedAs p) (keptOf p b))
   unfolding billFor
   halted-promised p q r =
       let ts = ranOf (start e m) in
@@ -95,7 +96,7 @@ module _ (x : Input) (b : Lent) (c : Container) (e : Env) (m : Machine) (s : Sta
         grown = rw (← starts-are) (grown-paid d (e .keys) (p .keys) (p .used) growth);
       }
 
-  run-promised : (end : End) → runOf (suc (e .limit - m .used)) e m ≡ end → Runs e m (ranOf (start e m)) end → Promised x b c (start e m) (ending end b)
+  run-promised : (end : End) → runOf (suc (e .limit - m .used)) e m ≡ end → Traced e m (ranOf (start e m)) end → Promised x b c (start e m) (ending end b)
   unfolding fetchesOf
   run-promised end q r = record {
     fetches = omega (arith, run-fetches e m (ranOf (start e m)) end r, fetches-are end, limit-is, used-first, fetches-first);
@@ -107,7 +108,8 @@ module _ (x : Input) (b : Lent) (c : Container) (e : Env) (m : Machine) (s : Sta
       fetches-are (halted p) = refl
       fetches-are (faulted w f) = refl
 
-      at-zero : (end : End) → runOf (suc (e .limit - m .used)) e m ≡ end → Runs e m (ranOf (start e m)) end → ending end b .answer .end .number ≡ 0 → Halted x b (dispatchPrice (length (c .code))) (start e m) (ending end b)
+      at-zero : (end : End) → runOf (suc (e .limit - m .used)) e m ≡ end → Traced e m (ranOf (start e m)) end → ending end b .answer .end .number ≡ 0 →
+          Halted x b (dispatchPrice (length (c .code))) (start e m) (ending end b)
       at-zero (halted p) q r h = halted-promised p q r
       at-zero (faulted w f) q r h = absurd (omega (arith, h, run-counts e m (ranOf (start e m)) (faulted w f) r .numbered))
 

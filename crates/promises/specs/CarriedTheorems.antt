@@ -24,7 +24,7 @@ module _ (κs : Lfts 14) (a : Dens κs kinds.ps) where
   lent =
       let w = a .1 .1 .1 .1 .1 .1 in
       lentAs (now (w .0)) (now (w .1 .0))
-      (tables.bufs (now (w .1 .1 .1 .0)) (now (w .1 .1 .1 .1 .0)) (now (w .1 .1 .1 .1 .1 .0)) (now (w .1 .1 .1 .1 .1 .1 .0)) (now (w .1 .1 .1 .1 .1 .1 .1 .0))) (now (w .1 .1 .1 .1 .1 .1 .1 .1 .0)) (now (w .1 .1 .0))
+      (tables.keyBufs (now (w .1 .1 .1 .0)) (now (w .1 .1 .1 .1 .0)) (now (w .1 .1 .1 .1 .1 .0)) (now (w .1 .1 .1 .1 .1 .1 .0)) (now (w .1 .1 .1 .1 .1 .1 .1 .0))) (now (w .1 .1 .1 .1 .1 .1 .1 .1 .0)) (now (w .1 .1 .0))
 
   abbrev Exits : Type 0
   Exits = Lasts (endedOf 14 kinds.ps kinds.r) κs a
@@ -33,7 +33,7 @@ module _ (κs : Lfts 14) (a : Dens κs kinds.ps) where
   left u =
       let w = u .1 .1 .1 .1 .1 .1 in
       lentAs (w .0) (w .1 .0)
-      (tables.bufs (w .1 .1 .1 .0) (w .1 .1 .1 .1 .0) (w .1 .1 .1 .1 .1 .0) (w .1 .1 .1 .1 .1 .1 .0) (w .1 .1 .1 .1 .1 .1 .1 .0)) (w .1 .1 .1 .1 .1 .1 .1 .1 .0) (w .1 .1 .0)
+      (tables.keyBufs (w .1 .1 .1 .0) (w .1 .1 .1 .1 .0) (w .1 .1 .1 .1 .1 .0) (w .1 .1 .1 .1 .1 .1 .0) (w .1 .1 .1 .1 .1 .1 .1 .0)) (w .1 .1 .1 .1 .1 .1 .1 .1 .0) (w .1 .1 .0)
 
   -- what a caller learns of the answer x and of the buffers at exit
   abbrev Told : resT kinds.r κs .Denot → Exits → Type 0
@@ -43,5 +43,6 @@ module _ (κs : Lfts 14) (a : Dens κs kinds.ps) where
   pub run-called : (x : resT kinds.r κs .Denot) (u : Exits) → Told x u → called x (left u) ≡ callOf given lent
   run-called x u learnt = learnt
 
-  pub run-promised : (x : resT kinds.r κs .Denot) (u : Exits) → Told x u → (c : Container) → readOf (given .container) ≡ done c → Promised given lent c (openingOf given lent) (called x (left u))
+  pub run-promised : (x : resT kinds.r κs .Denot) (u : Exits) → Told x u → (c : Container) → readOf (given .container) ≡ done c →
+      Promised given lent c (openingOf given lent) (called x (left u))
   run-promised x u learnt c r = rw (run-called x u learnt) (promised given lent c r)

@@ -1,13 +1,12 @@
 -- The cases that document 01 marks as proved, in one table (document 01, Cases): what is computed, and what it must give.
 use mathlib.Core.Path.{_≡_, refl}
-use mathlib.Core.Bool.{Bool, true, false}
+use mathlib.Core.Bool.{Bool, true}
 use mathlib.Core.List.{List, [], _∷_, _++_}
 use Prim.Native.Nat.{ℕ, _-_, _^_}
-use lib.Dec.{eqb}
 use lib.ListN.{replicate}
 use Rattle.words.specs.Bytes.{num, numFrom}
 use Rattle.words.specs.Choice.{both}
-use Rattle.isa.specs.Table.{byteOf, rowOf, find, opAt}
+use Rattle.isa.specs.Table.{byteOf, rowOf, opWith, opAt}
 use Rattle.isa.specs.Forms.{formOf, instrOf}
 use Rattle.isa.specs.Codec.{refusalIn, unless, operandsOf, afterOpcode, decodeList, decodeAt}
 use Rattle.isa.specs.Answers.{decodeError}
@@ -15,9 +14,10 @@ use Rattle.isa.specs.declared.instr.Instr.{Instr}
 use Rattle.isa.specs.declared.instr.Instr.the-variants.{Add, AddW, MulHi, DivW}
 use Rattle.isa.specs.declared.codec.Decoded.{Decoded}
 use Rattle.isa.specs.declared.codec.Decoded.the-variants.{Done, Refused}
+use Rattle.effects.specs.Targets.{same}
 use Rattle.meter.specs.Prices.{hashPrice}
 use Rattle.state.specs.Alu.{aluOf}
-use Rattle.state.specs.Regs.{reg, file, stepOf}
+use Rattle.state.specs.Regs.{reg, file, registerStep}
 use Rattle.state.specs.Memory.{regionOf, loadOf}
 use Rattle.state.specs.Answers.{regionNumber, loadNumber}
 
@@ -35,9 +35,9 @@ decoded (Done i n) = 0 ∷ n ∷ byteOf (formOf i .op) ∷ formOf i .regs ++ (fo
 decoded (Refused x) = decodeError x .number ∷ decodeError x .argument ∷ []
 
 -- an operation's fault, and registers 0 and 1 after it, from registers 2 to 5
-unfoldable pub operated : Instr → (r2 r3 r4 r5 : ℕ) → List ℕ
-operated i a b c d =
-    let s = stepOf i (file (0 ∷ 0 ∷ a ∷ b ∷ c ∷ d ∷ replicate 10 0)) in
+unfoldable pub operatedOn : Instr → (r2 r3 r4 r5 : ℕ) → List ℕ
+operatedOn i a b c d =
+    let s = registerStep i (file (0 ∷ 0 ∷ a ∷ b ∷ c ∷ d ∷ replicate 10 0)) in
     s .fault ∷ reg (s .file) 0 ∷ reg (s .file) 1 ∷ []
 
 unfoldable pub cases : List Case
@@ -46,10 +46,10 @@ cases =
     ∷ case (decoded (decodeAt (0x10 ∷ 0x01 ∷ []) 0)) (17 ∷ 0 ∷ [])
     ∷ case (decoded (decodeAt (0x05 ∷ []) 0)) (15 ∷ 0x05 ∷ [])
     ∷ case (decoded (decodeAt (0x03 ∷ 0x02 ∷ replicate 7 0 ++ (0x2A ∷ [])) 0)) (0 ∷ 10 ∷ 0x03 ∷ 2 ∷ 42 ∷ [])
-    ∷ case (operated (AddW 0 2 3) (2 ^ 64 - 1) 2 0 0) (0 ∷ 1 ∷ 0 ∷ [])
-    ∷ case (operated (Add 0 2 3) (2 ^ 64 - 1) 2 0 0) (2 ∷ 0 ∷ 0 ∷ [])
-    ∷ case (operated (MulHi 0 2 2) (2 ^ 64 - 1) 0 0 0) (0 ∷ (2 ^ 64 - 2) ∷ 0 ∷ [])
-    ∷ case (operated (DivW 0 1 2 3 4 5) 0 1 2 0) (0 ∷ (2 ^ 63) ∷ 0 ∷ [])
+    ∷ case (operatedOn (AddW 0 2 3) (2 ^ 64 - 1) 2 0 0) (0 ∷ 1 ∷ 0 ∷ [])
+    ∷ case (operatedOn (Add 0 2 3) (2 ^ 64 - 1) 2 0 0) (2 ∷ 0 ∷ 0 ∷ [])
+    ∷ case (operatedOn (MulHi 0 2 2) (2 ^ 64 - 1) 0 0 0) (0 ∷ (2 ^ 64 - 2) ∷ 0 ∷ [])
+    ∷ case (operatedOn (DivW 0 1 2 3 4 5) 0 1 2 0) (0 ∷ (2 ^ 63) ∷ 0 ∷ [])
     ∷ case (loadNumber (loadOf (replicate 65536 0) 65528) ∷ []) (0 ∷ [])
     ∷ case (loadNumber (loadOf (replicate 65536 0) 65529) ∷ []) (6 ∷ [])
     ∷ case (regionNumber (regionOf 65536 65536 0) ∷ []) (0 ∷ [])
@@ -57,16 +57,10 @@ cases =
     ∷ case (hashPrice 135 ∷ hashPrice 136 ∷ []) (40 ∷ 80 ∷ [])
     ∷ []
 
-unfoldable pub same : List ℕ → List ℕ → Bool
-same [] [] = true
-same (x ∷ xs) (y ∷ ys) = both (eqb x y) (same xs ys)
-same [] (y ∷ ys) = false
-same (x ∷ xs) [] = false
-
 unfoldable pub allHold : List Case → Bool
 allHold [] = true
 allHold (c ∷ cs) = both (same (c .gives) (c .must)) (allHold cs)
 
 pub p-cases : allHold cases ≡ true
-unfolding cases allHold same decoded operated num numFrom rowOf find opAt formOf instrOf refusalIn unless operandsOf afterOpcode decodeList decodeAt aluOf stepOf
+unfolding cases allHold same decoded operatedOn num numFrom rowOf opWith opAt formOf instrOf refusalIn unless operandsOf afterOpcode decodeList decodeAt aluOf registerStep
 p-cases = refl

@@ -9,8 +9,8 @@ use native.Mathlib.Nat.{zero-add}
 use lib.ListN.{length}
 use lib.Dec.{eqb}
 use borrow.Author.Tests.{eq-eqb, ne-eqb}
-use Rattle.words.specs.Choice.{either, bit}
-use Rattle.tables.specs.Rows.{Row, Rising, insert, lookup, isSome}
+use Rattle.words.specs.Choice.{either, bit, isSome}
+use Rattle.tables.specs.Rows.{Row, Rising, insert, lookup}
 use Rattle.tables.specs.OrderLaws.{Tri, tri}
 use Rattle.tables.specs.OrderLaws.Tri.{below, same, above}
 use Rattle.tables.specs.RowsTheorems.{length-insert, lookup-insert-same, lookup-insert-other}
@@ -23,7 +23,6 @@ bit-le false = omega arith
 
 -- whether a key stands in rows once a row was put in
 pub has-insert : (k : ℕ) (x : Row) (rs : List Row) → has k (insert x rs) ≡ either (eqb (x .key) k) (has k rs)
-unfolding isSome
 has-insert k x rs = go (tri (x .key) k)
   where
     other : (x .key ≡ k → ⊥) → has k (insert x rs) ≡ either (eqb (x .key) k) (has k rs)
@@ -76,12 +75,14 @@ tally-insert f x (r ∷ rs) = go (tally-insert f x rs) (tri (r .key) (x .key))
     go ih (above h e) = rw e (omega arith)
 
 -- and nothing more, where a row stood that counted as much
-pub tally-again : (f : Row → Bool) (x : Row) (rs : List Row) (u : ℕ) → lookup (x .key) rs ≡ some u → bit (f x) ≤ bit (f (row (x .key) u)) → tally f (insert x rs) ≤ tally f rs
+pub tally-again : (f : Row → Bool) (x : Row) (rs : List Row) (u : ℕ) → lookup (x .key) rs ≡ some u → bit (f x) ≤ bit (f (row (x .key) u)) →
+    tally f (insert x rs) ≤ tally f rs
 unfolding tally insert lookup
 tally-again f x [] u l h = absurd (let z : _≡_ {A = ℕ} 0 1 = cc in omega arith)
 tally-again f x (r ∷ rs) u l h = go (tally-again f x rs u) (tri (r .key) (x .key))
   where
-    go : (lookup (x .key) rs ≡ some u → bit (f x) ≤ bit (f (row (x .key) u)) → tally f (insert x rs) ≤ tally f rs) → Tri (r .key) (x .key) → tally f (insert x (r ∷ rs)) ≤ tally f (r ∷ rs)
+    go : (lookup (x .key) rs ≡ some u → bit (f x) ≤ bit (f (row (x .key) u)) → tally f (insert x rs) ≤ tally f rs) → Tri (r .key) (x .key) →
+        tally f (insert x (r ∷ rs)) ≤ tally f (r ∷ rs)
     go ih (below q e) = rw e (omega (arith, ih (rw e at l) h))
     go ih (same q e) =
         let s : some (r .value) ≡ some u = rw e at l in
@@ -113,7 +114,7 @@ none-pass (r ∷ rs) = rw zero-add (none-pass rs)
 
 -- keys that stand in ps are no more than ps is long
 pub tally-has : (ps rs : List Row) → Rising 0 rs → tally (λ (r : Row). has (r .key) ps) rs ≤ length ps
-unfolding lookup isSome
+unfolding lookup
 tally-has [] rs s = none-pass rs
 tally-has (p ∷ ps) rs s =
     omega (arith, tally-le (λ (r : Row). has (r .key) (p ∷ ps)) (λ (r : Row). eqb (r .key) (p .key)) (λ (r : Row). has (r .key) ps) rs (λ r. go r (tri (p .key) (r .key))), one-key (p .key) 0 rs s, tally-has ps rs s)

@@ -250,7 +250,7 @@ run-determined κs a x y u v p q =
                     (
                       same i .lent .run .stack,
                       (
-                        same i .lent .map,
+                        same i .lent .starts,
                         (
                           same i .lent .run .keys .changes,
                           (same i .lent .run .keys .fetched, (same i .lent .run .keys .may-read, (same i .lent .run .keys .may-write, (same i .lent .run .keys .paid, (same i .lent .run .log, tt))))),
@@ -267,10 +267,14 @@ run-determined κs a x y u v p q =
     )
 
 pub qvm-for-entry-determined : Determined _ qvm-for-entry-kinds.ps qvm-for-entry-kinds.r qvm-for-entry.Learnt
-qvm-for-entry-determined κs a x y u v p q = let same = p ∙ sym q in (λ i. same i .given .number, λ i. (tt, (tt, (tt, (tt, (tt, (tt, (tt, (tt, (tt, (tt, (tt, (same i .lent .run .memory, (same i .lent .run .stack, (same i .lent .map, (same i .lent .run .keys .changes, (same i .lent .run .keys .fetched, (same i .lent .run .keys .may-read, (same i .lent .run .keys .may-write, (same i .lent .run .keys .paid, (same i .lent .run .log, (same i .given .answer, tt))))))))))))))))))))))
+qvm-for-entry-determined κs a x y u v p q =
+    let same = p ∙ sym q in
+    (λ i. same i .given .number, λ i. (tt, (tt, (tt, (tt, (tt, (tt, (tt, (tt, (tt, (tt, (tt, (same i .lent .run .memory, (same i .lent .run .stack, (same i .lent .starts, (same i .lent .run .keys .changes, (same i .lent .run .keys .fetched, (same i .lent .run .keys .may-read, (same i .lent .run .keys .may-write, (same i .lent .run .keys .paid, (same i .lent .run .log, (same i .given .answer, tt))))))))))))))))))))))
 
 pub qvm-for-genesis-determined : Determined _ qvm-for-genesis-kinds.ps qvm-for-genesis-kinds.r qvm-for-genesis.Learnt
-qvm-for-genesis-determined κs a x y u v p q = let same = p ∙ sym q in (λ i. same i .given .number, λ i. (tt, (tt, (tt, (tt, (tt, (tt, (tt, (tt, (tt, (tt, (same i .lent .run .memory, (same i .lent .run .stack, (same i .lent .map, (same i .lent .run .keys .changes, (same i .lent .run .keys .fetched, (same i .lent .run .keys .may-read, (same i .lent .run .keys .may-write, (same i .lent .run .keys .paid, (same i .lent .run .log, (same i .given .answer, tt)))))))))))))))))))))
+qvm-for-genesis-determined κs a x y u v p q =
+    let same = p ∙ sym q in
+    (λ i. same i .given .number, λ i. (tt, (tt, (tt, (tt, (tt, (tt, (tt, (tt, (tt, (tt, (same i .lent .run .memory, (same i .lent .run .stack, (same i .lent .starts, (same i .lent .run .keys .changes, (same i .lent .run .keys .fetched, (same i .lent .run .keys .may-read, (same i .lent .run .keys .may-write, (same i .lent .run .keys .paid, (same i .lent .run .log, (same i .given .answer, tt)))))))))))))))))))))
 
 pub qvm-verify-determined : Determined _ qvm-verify-kinds.ps qvm-verify-kinds.r qvm-verify.Learnt
 qvm-verify-determined κs a x y u v p q = let same = p ∙ sym q in (λ i. same i .number, λ i. (tt, (same i .answer, tt)))
@@ -279,7 +283,9 @@ pub qvm-entry-offset-determined : Determined _ qvm-entry-offset-kinds.ps qvm-ent
 qvm-entry-offset-determined κs a x y u v p q = let same = p ∙ sym q in (λ i. same i .number, λ i. (tt, (tt, (same i .answer, tt))))
 
 pub qvm-canonical-bytes-determined : Determined _ qvm-canonical-bytes-kinds.ps qvm-canonical-bytes-kinds.r qvm-canonical-bytes.Learnt
-qvm-canonical-bytes-determined κs a x y u v p q = let same = p ∙ sym q in (λ i. same i .given .number, λ i. (tt, (tt, (tt, (same i .lent, (same i .given .answer, tt))))))
+qvm-canonical-bytes-determined κs a x y u v p q =
+    let same = p ∙ sym q in (λ i. same i .given .number, λ i. (tt, (tt, (tt, (same i .lent, (same i .given .answer, tt))))))
 
 pub qvm-change-list-determined : Determined _ qvm-change-list-kinds.ps qvm-change-list-kinds.r qvm-change-list.Learnt
-qvm-change-list-determined κs a x y u v p q = let same = p ∙ sym q in (λ i. same i .given .number, λ i. (tt, (tt, (tt, (tt, (tt, (same i .lent, (same i .given .answer, tt))))))))
+qvm-change-list-determined κs a x y u v p q =
+    let same = p ∙ sym q in (λ i. same i .given .number, λ i. (tt, (tt, (tt, (tt, (tt, (same i .lent, (same i .given .answer, tt))))))))

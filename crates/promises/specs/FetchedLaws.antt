@@ -8,20 +8,20 @@ use Rattle.tables.specs.Rows.{Row, lookup}
 use Rattle.tables.specs.OrderLaws.{Tri, tri}
 use Rattle.tables.specs.OrderLaws.Tri.{below, same, above}
 use Rattle.tables.specs.RowsTheorems.{lookup-insert-same, lookup-insert-other}
-use Rattle.keys.specs.Known.{Env, Keys}
+use Rattle.keys.specs.Known.{KeyEnv, Keys}
 use Rattle.keys.specs.Values.{row, orZero, fromLoader, firstOf, lookIn, look, fetchedWith}
 use Rattle.changes.specs.ChangeList.{orElse, startOf}
 use Rattle.promises.specs.Grown.{loaderRows, startIn}
 
 -- a run that stored nothing and fetched these sees every starting value
-abbrev pub Honest : Env → List Row → Type 0
+abbrev pub Honest : KeyEnv → List Row → Type 0
 Honest e fs = (j : ℕ) → lookIn [] (e .store) fs (e .loader) j .value ≡ startIn e j
 
-pub seen-start : (e : Env) (s : Keys) (k : ℕ) → Honest e (s .fetched) → lookup k (s .changes) ≡ none → look e s k .value ≡ startIn e k
+pub seen-start : (e : KeyEnv) (s : Keys) (k : ℕ) → Honest e (s .fetched) → lookup k (s .changes) ≡ none → look e s k .value ≡ startIn e k
 unfolding look lookIn firstOf lookup
 seen-start e s k h q = rw q (h k)
 
-pub none-honest : (e : Env) → Honest e []
+pub none-honest : (e : KeyEnv) → Honest e []
 unfolding lookIn firstOf fromLoader lookup startIn startOf orElse orZero loaderRows
 none-honest e j = go (lookup j (e .store)) (e .loader)
   where
@@ -35,7 +35,7 @@ none-honest e j = go (lookup j (e .store)) (e .loader)
     go none (some ls) = last (lookup j ls)
 
 -- a value that comes from the loader is the starting value
-pub fetch-honest : (e : Env) (s : Keys) (k : ℕ) → Honest e (s .fetched) → Honest e (fetchedWith (look e s k) k (s .fetched))
+pub fetch-honest : (e : KeyEnv) (s : Keys) (k : ℕ) → Honest e (s .fetched) → Honest e (fetchedWith (look e s k) k (s .fetched))
 unfolding look lookIn firstOf fromLoader lookup fetchedWith
 fetch-honest e s k h j = go (lookup k (s .changes)) (lookup k (e .store)) (lookup k (s .fetched)) (e .loader) refl refl refl refl
   where

@@ -6,7 +6,7 @@ use Prim.Native.Nat.{ℕ, _+_}
 use lib.Dec.{eqb}
 use Rattle.words.specs.Choice.{both, bit}
 use Rattle.tables.specs.Rows.{Row}
-use Rattle.keys.specs.Known.{Env}
+use Rattle.keys.specs.Known.{KeyEnv}
 use Rattle.changes.specs.ChangeList.{startOf}
 
 -- an absent loader has no rows
@@ -15,7 +15,7 @@ loaderRows none = []
 loaderRows (some rs) = rs
 
 -- the store's value, else the loader's, else 0
-unfoldable pub startIn : Env → ℕ → ℕ
+unfoldable pub startIn : KeyEnv → ℕ → ℕ
 startIn e k = startOf (e .store) (loaderRows (e .loader)) k
 
 -- a row of the changes whose key started as zero and whose value is not

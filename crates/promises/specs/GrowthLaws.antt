@@ -10,7 +10,7 @@ use lib.Dec.{leb, eqb}
 use borrow.Author.Tests.{eq-eqb, eqb-true, leb-false, not-true}
 use Rattle.words.specs.Choice.{both, either, bit}
 use Rattle.tables.specs.Rows.{Row, insert, lookup}
-use Rattle.keys.specs.Known.{Env, Keys}
+use Rattle.keys.specs.Known.{KeyEnv, Keys}
 use Rattle.keys.specs.Values.{row, has, firstOf, lookIn, look}
 use Rattle.keys.specs.Steps.{paysFresh, freshAt}
 use Rattle.promises.specs.Grown.{startIn, tally, grew}
@@ -18,7 +18,7 @@ use Rattle.promises.specs.CountingLaws.{tally-mono, tally-length, tally-
 use Rattle.promises.specs.FetchedLaws.{Honest, seen-start}
 
 -- a key that grew and has not paid as fresh
-unfoldable pub unpaid : Env → List Row → Row → Bool
+unfoldable pub unpaid : KeyEnv → List Row → Row → Bool
 unpaid e ps r = both (grew (startIn e) r) (not (has (r .key) ps))
 
 -- ---- tests taken apart
@@ -31,7 +31,7 @@ either-false : (a b : Bool) → either a b ≡ false → b ≡ false
 either-false true b h = absurd (let z : _≡_ {A = ℕ} 0 1 = cc in omega arith)
 either-false false b h = h
 
-module _ (e : Env) (ps : List Row) (k v : ℕ) where
+module _ (e : KeyEnv) (ps : List Row) (k v : ℕ) where
   unpaid-is : unpaid e ps (row k v) ≡ true → (startIn e k ≡ 0) × (eqb v 0 ≡ false) × (has k ps ≡ false)
   unfolding unpaid grew
   unpaid-is h =
@@ -53,7 +53,7 @@ module _ (e : Env) (ps : List Row) (k v : ℕ) where
 
 -- ---- what is stored without paying as fresh
 
-module _ (e : Env) (k v : ℕ) (s : Keys) where
+module _ (e : KeyEnv) (k v : ℕ) (s : Keys) where
   -- a value put over zero that does not pay as fresh: fewer than 8 keys are dirty
   few : freshAt e s k v ≡ false → eqb v 0 ≡ false → look e s k .value ≡ 0 → has k (s .paid) ≡ false → length (s .changes) < 8
   unfolding freshAt paysFresh
@@ -73,7 +73,8 @@ module _ (e : Env) (k v : ℕ) (s : Keys) where
       → tally (unpaid e (s .paid)) (insert (row k v) (s .changes)) ≤ 8
   not-fresh fr h f = go (unpaid e (s .paid) (row k v)) refl
     where
-      old : (u : ℕ) → lookup k (s .changes) ≡ some u → unpaid e (s .paid) (row k v) ≡ true → (b : Bool) → eqb u 0 ≡ b → tally (unpaid e (s .paid)) (insert (row k v) (s .changes)) ≤ 8
+      old : (u : ℕ) → lookup k (s .changes) ≡ some u → unpaid e (s .paid) (row k v) ≡ true → (b : Bool) → eqb u 0 ≡ b →
+          tally (unpaid e (s .paid)) (insert (row k v) (s .changes)) ≤ 8
       old u q t true z =
           let (a, n, p) = unpaid-is e (s .paid) k v t in
           few-tally (unpaid e (s .paid)) (few fr n (seen-stored u q ∙ eqb-true u 0 z) p)
@@ -102,7 +103,8 @@ module _ (e : Env) (k v : ℕ) (s : Keys) where
       less : (r : Row) → bit (unpaid e (insert (row k 0) (s .paid)) r) ≤ bit (unpaid e (s .paid) r)
       less r = by (unpaid e (insert (row k 0) (s .paid)) r) refl (has (r .key) (s .paid)) refl
         where
-          by : (b : Bool) → unpaid e (insert (row k 0) (s .paid)) r ≡ b → (c : Bool) → has (r .key) (s .paid) ≡ c → bit (unpaid e (insert (row k 0) (s .paid)) r) ≤ bit (unpaid e (s .paid) r)
+          by : (b : Bool) → unpaid e (insert (row k 0) (s .paid)) r ≡ b → (c : Bool) → has (r .key) (s .paid) ≡ c →
+              bit (unpaid e (insert (row k 0) (s .paid)) r) ≤ bit (unpaid e (s .paid) r)
           by false q c p = rw q (omega arith)
           by true q true p =
               let g : unpaid e (insert (row k 0) (s .paid)) r ≡ false = paid-is e (insert (row k 0) (s .paid)) (r .key) (r .value) (has-more (r .key) (row k 0) (s .paid) p) in

@@ -16,10 +16,11 @@ use Rattle.container.specs.Answers.{readError}
 use Rattle.container.specs.declared.reader.ReadError.{ReadError}
 use Rattle.container.specs.declared.reader.ReadError.the-variants as reading
 use Rattle.machine.specs.Machine.{Env, Machine}
-use Rattle.opening.specs.Opening.{Input, Lent, Opening, refuse, start, must, startsOf, sizesFit, tablesNumber, within, matching, envOf, machineFor, openingAt, openingOne, openingIn, openingRead, openingOf}
+use Rattle.starts.specs.Starts.{startsOf}
+use Rattle.opening.specs.Opening.{Input, Lent, Opening, refuse, start, must, sizesFit, tablesNumber, within, matching, envOf, machineFor, openingAt, openingOne, openingIn, openingRead, openingOf}
 
 -- a container that was read and an entry of it, whose environment and first machine these are
-pub record Starts (x : Input) (b : Lent) (e : Env) (m : Machine) : Type 0 where
+pub record StartedFrom (x : Input) (b : Lent) (e : Env) (m : Machine) : Type 0 where
   pub container : Container
   pub entry : Entry
   pub is-read : readOf (x .container) ≡ done container
@@ -32,7 +33,7 @@ passed true n o e m h = h
 passed false n o e m h = absurd (let z : _≡_ {A = ℕ} 0 1 = cc in omega arith)
 
 module _ (x : Input) (b : Lent) (e : Env) (m : Machine) where
-  at-entry : (c : Container) (en : Entry) → readOf (x .container) ≡ done c → openingAt x b c en ≡ start e m → Starts x b e m
+  at-entry : (c : Container) (en : Entry) → readOf (x .container) ≡ done c → openingAt x b c en ≡ start e m → StartedFrom x b e m
   unfolding openingAt
   at-entry c en r h =
       let k : start (envOf x b c en) (machineFor x c en) ≡ start e m =
@@ -41,17 +42,17 @@ module _ (x : Input) (b : Lent) (e : Env) (m : Machine) where
       (passed (leb (slotCount en) 4096) 14 _ e m h)) in
       record { container = c; entry = en; is-read = r; env = cc; machine = cc }
 
-  in-list : (c : Container) (es : List Entry) → readOf (x .container) ≡ done c → openingOne x b c es ≡ start e m → Starts x b e m
+  in-list : (c : Container) (es : List Entry) → readOf (x .container) ≡ done c → openingOne x b c es ≡ start e m → StartedFrom x b e m
   unfolding openingOne
   in-list c [] r h = absurd (let z : _≡_ {A = ℕ} 0 1 = cc in omega arith)
   in-list c (en ∷ []) r h = at-entry c en r h
   in-list c (en ∷ f ∷ es) r h = absurd (let z : _≡_ {A = ℕ} 0 1 = cc in omega arith)
 
-  pub starts-from : openingOf x b ≡ start e m → Starts x b e m
+  pub starts-from : openingOf x b ≡ start e m → StartedFrom x b e m
   unfolding openingOf openingRead openingIn
   starts-from h = go (readOf (x .container)) refl (passed (sizesFit b) 44 _ e m h)
     where
-      go : (r : Read) → readOf (x .container) ≡ r → openingRead x b r ≡ start e m → Starts x b e m
+      go : (r : Read) → readOf (x .container) ≡ r → openingRead x b r ≡ start e m → StartedFrom x b e m
       go (refused y) q k = absurd (let z : _≡_ {A = ℕ} 0 1 = cc in omega arith)
       go (done c) q k =
           in-list c (matching (x .selector) (c .entries)) q

@@ -42,7 +42,7 @@ RightedIn (start e m) = Righted e (e .keys .writes) (ranOf (start e m))
 
 -- a key's starting value
 unfoldable pub startAt : Input → ℕ → ℕ
-startAt x k = startOf (rows 40 (length (x .store) / 40) (x .store)) (pick (x .present) (rows 40 (length (x .loader) / 40) (x .loader)) []) k
+startAt x k = startOf (rows 40 (length (x .store) / 40) (x .store)) (pick (x .«has_loader») (rows 40 (length (x .loader) / 40) (x .loader)) []) k
 
 -- ---- the promises, of an opening and what the call leaves
 

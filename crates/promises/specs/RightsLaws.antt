@@ -20,15 +20,15 @@ use Rattle.machine.specs.RuleLaws.{Passed}
 use Rattle.machine.specs.Actions.{actionOf}
 use Rattle.machine.specs.StorageRules.{keyAt, storing, accessOf}
 use Rattle.machine.specs.Grants.{Grant, grantBy}
-use Rattle.machine.specs.KeysLaws.{granted, accessKeys, keysOf}
+use Rattle.machine.specs.KeysLaws.{granted, accessKeys, keysAfter}
 use Rattle.machine.specs.Turns.{actOf, ruleOf, End, halted, faulted}
 use Rattle.machine.specs.declared.action.Action.{Action}
 use Rattle.machine.specs.declared.action.Action.the-variants as action
 use Rattle.machine.specs.declared.action.Access.the-variants.{SLoad, SStore}
 use Rattle.machine.specs.Trace.{Took, took}
 use Rattle.promises.specs.Accounts.{storesBy, storesOf, writable, grantsBy, grantsOf, Righted, storedIn}
-use Rattle.machine.specs.TraceLaws.{Runs}
-use Rattle.machine.specs.TraceLaws.Runs.{faults, halts, goes}
+use Rattle.machine.specs.TraceLaws.{Traced}
+use Rattle.machine.specs.TraceLaws.Traced.{faults, halts, goes}
 use Rattle.promises.specs.CountingLaws.{has-insert}
 
 -- ---- tests
@@ -54,7 +54,8 @@ either-right false b h = h
 member-left : (k : ℕ) (xs ys : List ℕ) → member k xs ≡ true → member k (xs ++ ys) ≡ true
 unfolding member
 member-left k [] ys h = false-true h
-member-left k (x ∷ xs) ys h = either-gives (eqb x k) (member k xs) (either (eqb x k) (member k (xs ++ ys))) (either-left (eqb x k) (member k (xs ++ ys))) (λ q. either-right (eqb x k) (member k (xs ++ ys)) (member-left k xs ys q)) h
+member-left k (x ∷ xs) ys h =
+    either-gives (eqb x k) (member k xs) (either (eqb x k) (member k (xs ++ ys))) (either-left (eqb x k) (member k (xs ++ ys))) (λ q. either-right (eqb x k) (member k (xs ++ ys)) (member-left k xs ys q)) h
 
 member-right : (k : ℕ) (xs ys : List ℕ) → member k ys ≡ true → member k (xs ++ ys) ≡ true
 unfolding member
@@ -79,7 +80,8 @@ unfolding member
 only k x h = eqb-true x k (either-gives (eqb x k) false (eqb x k) (λ q. q) false-true h)
 
 module _ (e : Env) (m : Machine) where
-  store-held : (i : Instr) (o : Action) (k : ℕ) → member k (storesBy o m) ≡ true → Passed (actOf e i o (bare m)) → mayStore (e .keys .writes) (m .keys .may-write) k ≡ true
+  store-held : (i : Instr) (o : Action) (k : ℕ) → member k (storesBy o m) ≡ true → Passed (actOf e i o (bare m)) →
+      mayStore (e .keys .writes) (m .keys .may-write) k ≡ true
   unfolding storesBy member actOf accessOf storing
   store-held i action.Halt k h y = false-true h
   store-held i action.Nop k h y = false-true h
@@ -87,7 +89,9 @@ module _ (e : Env) (m : Machine) where
   store-held i (action.Moves o) k h y = false-true h
   store-held i (action.Jumps o) k h y = false-true h
   store-held i (action.Storage (SLoad d a)) k h y = false-true h
-  store-held i (action.Storage (SStore a b)) k h y = let key = keyAt m (reg (m .regs) a) in rw (only k key h) at (held (mayStore (e .keys .writes) (m .keys .may-write) key) 12 (omega arith) (y .1 .0))
+  store-held i (action.Storage (SStore a b)) k h y =
+      let key = keyAt m (reg (m .regs) a) in
+      rw (only k key h) at (held (mayStore (e .keys .writes) (m .keys .may-write) key) 12 (omega arith) (y .1 .0))
   store-held i (action.Posts o) k h y = false-true h
   store-held i (action.Hash a b c) k h y = false-true h
   store-held i (action.Checks o) k h y = false-true h
@@ -112,8 +116,8 @@ grant-allows e s ks (some g) a = go (member (g .base) (e .keys .keyed-writes))
         (λ q. either-gives (eqb (g .key) k) (has k (s .may-write)) c (either-left (eqb (g .key) k) (member k ks)) (λ z. either-right (eqb (g .key) k) (member k ks) (a k (either-right (member k (e .keys .writes)) (has k (s .may-write)) z))) (rw (has-insert k (row (g .key) 0) (s .may-write)) at q))
         h
 
-act-allows : (e : Env) (m : Machine) (ks : List ℕ) (o : Action) → Allows e ks (m .keys) → Allows e (grantsBy e o m ++ ks) (keysOf e o m)
-unfolding grantsBy keysOf accessKeys loaded stored
+act-allows : (e : Env) (m : Machine) (ks : List ℕ) (o : Action) → Allows e ks (m .keys) → Allows e (grantsBy e o m ++ ks) (keysAfter e o m)
+unfolding grantsBy keysAfter accessKeys loaded stored
 act-allows e m ks action.Halt a = a
 act-allows e m ks action.Nop a = a
 act-allows e m ks action.Registers a = a
@@ -127,7 +131,7 @@ act-allows e m ks (action.Checks o) a = a
 
 -- ---- so it is in a run
 
-pub run-righted : (e : Env) (m : Machine) (ts : List Took) (end : End) → Runs e m ts end → (ks : List ℕ) → Allows e ks (m .keys) → Righted e ks ts
+pub run-righted : (e : Env) (m : Machine) (ts : List Took) (end : End) → Traced e m ts end → (ks : List ℕ) → Allows e ks (m .keys) → Righted e ks ts
 unfolding storesOf grantsOf ruleOf
 run-righted e m ts end (faults n w h) ks l = tt
 run-righted e m ts end (halts n p i j f) ks l = (λ k h. l k (store-held e (took n i j .on) i (actionOf i) k h (f .passed)), tt)
@@ -138,8 +142,9 @@ run-righted e m ts end (goes n p i j us x f r) ks l = (
 
 -- ---- every key of the changes was stored by a step
 
-act-stores : (e : Env) (m : Machine) (o : Action) (k : ℕ) → has k (keysOf e o m .changes) ≡ true → either (has k (m .keys .changes)) (member k (storesBy o m)) ≡ true
-unfolding keysOf accessKeys loaded stored storesBy member granted authorised
+act-stores : (e : Env) (m : Machine) (o : Action) (k : ℕ) → has k (keysAfter e o m .changes) ≡ true →
+    either (has k (m .keys .changes)) (member k (storesBy o m)) ≡ true
+unfolding keysAfter accessKeys loaded stored storesBy member granted authorised
 act-stores e m action.Halt k h = either-left (has k (m .keys .changes)) false h
 act-stores e m action.Nop k h = either-left (has k (m .keys .changes)) false h
 act-stores e m action.Registers k h = either-left (has k (m .keys .changes)) false h
@@ -160,17 +165,18 @@ act-stores e m (action.Hash a b c) k h = either-left (has k (m .keys .changes)) 
 act-stores e m (action.Checks o) k h = either-left (has k (m .keys .changes)) false h
 
 -- a key of the changes at a halt stood there before, or a step stored it
-abbrev pub Stored : Machine → List Took → End → Type 0
-Stored m ts (halted p) = (k : ℕ) → has k (p .keys .changes) ≡ true → either (has k (m .keys .changes)) (member k (storedIn ts)) ≡ true
-Stored m ts (faulted w f) = Unit {0}
+abbrev pub StoredBy : Machine → List Took → End → Type 0
+StoredBy m ts (halted p) = (k : ℕ) → has k (p .keys .changes) ≡ true → either (has k (m .keys .changes)) (member k (storedIn ts)) ≡ true
+StoredBy m ts (faulted w f) = Unit {0}
 
-pub run-stored : (e : Env) (m : Machine) (ts : List Took) (end : End) → Runs e m ts end → Stored m ts end
+pub run-stored : (e : Env) (m : Machine) (ts : List Took) (end : End) → Traced e m ts end → StoredBy m ts end
 unfolding storedIn storesOf
 run-stored e m ts end (faults n w h) = tt
-run-stored e m ts end (halts n p i j f) = λ k h. now-or k (has k (n .keys .changes)) (storesBy (actionOf i) (took n i j .on)) [] (act-stores e (took n i j .on) (actionOf i) k (rw (f .keys) at h))
+run-stored e m ts end (halts n p i j f) =
+    λ k h. now-or k (has k (n .keys .changes)) (storesBy (actionOf i) (took n i j .on)) [] (act-stores e (took n i j .on) (actionOf i) k (rw (f .keys) at h))
 run-stored e m ts end (goes n p i j us x f r) = go x (run-stored e p us x r)
   where
-    go : (x : End) → Stored p us x → Stored n (took n i j ∷ us) x
+    go : (x : End) → StoredBy p us x → StoredBy n (took n i j ∷ us) x
     go (faulted w g) h = tt
     go (halted q) h = λ k z.
         let before = has k (n .keys .changes) in

@@ -17,7 +17,7 @@ use Rattle.keys.specs.Steps.{loaded, stored, freshAt, storePrice, storePriceAt,
 use Rattle.keys.specs.Opening.{noKeys}
 use Rattle.machine.specs.Machine.{Env, Machine, bare}
 use Rattle.machine.specs.Grants.{Grant, grantBy}
-use Rattle.machine.specs.KeysLaws.{granted, accessKeys, keysOf}
+use Rattle.machine.specs.KeysLaws.{granted, accessKeys, keysAfter}
 use Rattle.machine.specs.Actions.{actionOf}
 use Rattle.machine.specs.Steps.{Step}
 use Rattle.machine.specs.Rules.{bill}
@@ -27,21 +27,21 @@ use Rattle.machine.specs.declared.action.Action.{Action}
 use Rattle.machine.specs.declared.action.Action.the-variants as action
 use Rattle.machine.specs.declared.action.Access.the-variants.{SLoad, SStore}
 use Rattle.machine.specs.Trace.{Took, fetchedFrom}
-use Rattle.machine.specs.TraceLaws.{basePaid, Finished, Runs}
-use Rattle.machine.specs.TraceLaws.Runs.{faults, halts, goes}
+use Rattle.machine.specs.TraceLaws.{basePaid, Finished, Traced}
+use Rattle.machine.specs.TraceLaws.Traced.{faults, halts, goes}
 use Rattle.promises.specs.Grown.{startIn, tally, grew}
 use Rattle.promises.specs.CountingLaws.{tally-le, tally-has, length-more}
 use Rattle.promises.specs.FetchedLaws.{Honest, none-honest, fetch-honest}
 use Rattle.promises.specs.GrowthLaws.{unpaid, not-fresh, pays-fresh}
 
 -- at most 8 keys that grew have not paid as fresh; every other paid 227000 of what was used since d
-pub record Growth (d : ℕ) (e : known.Env) (s : Keys) (used : ℕ) : Type 0 where
+pub record Growth (d : ℕ) (e : known.KeyEnv) (s : Keys) (used : ℕ) : Type 0 where
   pub free : tally (unpaid e (s .paid)) (s .changes) ≤ 8
   pub charged : d + 227000 * length (s .paid) ≤ used
   pub honest : Honest e (s .fetched)
   pub rising : Rising 0 (s .changes)
 
-module _ (d : ℕ) (e : known.Env) where
+module _ (d : ℕ) (e : known.KeyEnv) where
   pub none-grew : Growth d e noKeys d
   unfolding tally
   none-grew = record { free = omega arith; charged = omega arith; honest = none-honest e; rising = tt }
@@ -62,8 +62,18 @@ module _ (d : ℕ) (e : known.Env) where
         rises = rising-insert 0 (row k v) (s .changes) (omega arith) (g .rising)
 
         go : (b : Bool) → freshAt e s k v ≡ b → Growth d e (stored e s k v) (u + storePriceAt e s k v)
-        go true q = record { free = rw q (pays-fresh e k v s (g .free)); charged = rw q (omega (arith, g .charged, length-more (row k 0) (s .paid))); honest = fetch-honest e s k (g .honest); rising = rises }
-        go false q = record { free = rw q (not-fresh e k v s q (g .honest) (g .free)); charged = rw q (omega (arith, g .charged)); honest = fetch-honest e s k (g .honest); rising = rises }
+        go true q = record {
+          free = rw q (pays-fresh e k v s (g .free));
+          charged = rw q (omega (arith, g .charged, length-more (row k 0) (s .paid)));
+          honest = fetch-honest e s k (g .honest);
+          rising = rises;
+        }
+        go false q = record {
+          free = rw q (not-fresh e k v s q (g .honest) (g .free));
+          charged = rw q (omega (arith, g .charged));
+          honest = fetch-honest e s k (g .honest);
+          rising = rises;
+        }
 
     grant-grows : (o : Option Grant) → Growth d e (granted e s o) u
     unfolding granted authorised
@@ -90,8 +100,9 @@ module _ (d : ℕ) (e : known.Env) where
 
 -- ---- in a run
 
-act-grows : (d : ℕ) (e : Env) (i : Instr) (m : Machine) (u : ℕ) → Growth d (e .keys) (m .keys) u → (o : Action) → Growth d (e .keys) (keysOf e o m) (u + bill (actOf e i o (bare m)))
-unfolding keysOf accessKeys actOf accessOf storing bill
+act-grows : (d : ℕ) (e : Env) (i : Instr) (m : Machine) (u : ℕ) → Growth d (e .keys) (m .keys) u → (o : Action) →
+    Growth d (e .keys) (keysAfter e o m) (u + bill (actOf e i o (bare m)))
+unfolding keysAfter accessKeys actOf accessOf storing bill
 act-grows d e i m u g action.Halt = more-used d (e .keys) (m .keys) u g _ (omega arith)
 act-grows d e i m u g action.Nop = more-used d (e .keys) (m .keys) u g _ (omega arith)
 act-grows d e i m u g action.Registers = more-used d (e .keys) (m .keys) u g _ (omega arith)
@@ -108,11 +119,13 @@ Grows d e (halted p) = Growth d (e .keys) (p .keys) (p .used)
 Grows d e (faulted w f) = Unit {0}
 
 module _ (d : ℕ) (e : Env) where
-  step-grows : (m p : Machine) (i : Instr) (n : ℕ) (s : Step) → Finished e m i n s p → Growth d (e .keys) (m .keys) (m .used) → Growth d (e .keys) (p .keys) (p .used)
+  step-grows : (m p : Machine) (i : Instr) (n : ℕ) (s : Step) → Finished e m i n s p → Growth d (e .keys) (m .keys) (m .used) →
+      Growth d (e .keys) (p .keys) (p .used)
   unfolding ruleOf
-  step-grows m p i n s f g = rw (f .used, f .keys) (act-grows d e i (fetchedFrom m i n) (basePaid m i) (more-used d (e .keys) (m .keys) (m .used) g (basePaid m i) (omega arith)) (actionOf i))
+  step-grows m p i n s f g =
+      rw (f .used, f .keys) (act-grows d e i (fetchedFrom m i n) (basePaid m i) (more-used d (e .keys) (m .keys) (m .used) g (basePaid m i) (omega arith)) (actionOf i))
 
-  pub run-grows : (m : Machine) (ts : List Took) (end : End) → Runs e m ts end → Growth d (e .keys) (m .keys) (m .used) → Grows d e end
+  pub run-grows : (m : Machine) (ts : List Took) (end : End) → Traced e m ts end → Growth d (e .keys) (m .keys) (m .used) → Grows d e end
   run-grows m ts end (faults n w h) g = tt
   run-grows m ts end (halts n p i j f) g = step-grows n p i j _ f g
   run-grows m ts end (goes n p i j us x f r) g = run-grows p us x r (step-grows n p i j _ f g)

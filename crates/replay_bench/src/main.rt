@@ -3,7 +3,7 @@
 ghost use Prim.Native.Nat.{_≤_};
 ghost use lib.ListN.{length};
 use isa::instr::Instr;
-use isa::opcode::Op;
+use isa::opcode::OpByte;
 use isa::opcode::OpCode;
 use libc::STDIN_FILENO;
 use state::regs::RegFile;
@@ -47,7 +47,7 @@ fn registers(file: RegFile) {
 fn step(file: RegFile, opcode: u8, s: &[u8]) -> RegFile
     requires { ⌜ 14 ≤ length (now s) ⌝ }
 {
-    let Op::Known(op) = OpCode::from_byte(opcode) else {
+    let OpByte::Known(op) = OpCode::from_byte(opcode) else {
         return file;
     };
     let i = instruction(op, s);

@@ -1,2 +1,4 @@
+-- what the code claims
 pub mod Sound
+-- laws
 pub mod StepLaws

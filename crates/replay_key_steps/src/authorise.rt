@@ -1,7 +1,7 @@
 // Authorising a key made from a base.
 ghost use mathlib.Core.Path.{_≡_};
 ghost use lib.ListN.{length};
-ghost use Rattle.keys.specs.Lent.{Bufs, bufs};
+ghost use Rattle.keys.specs.Lent.{KeyBufs, keyBufs};
 ghost use Rattle.keys.specs.Sound.{Good};
 ghost use Rattle.replay_key_steps.specs.Sound.{Among};
 use keys::counts::Counts;
@@ -14,16 +14,24 @@ pub fn authorise(
     writable: &mut [u8],
     step: &[u8],
 ) -> Counts
-    requires { ⌜ Among c (λ b. bufs (b .changes) (b .fetched) (now readable) (now writable) (b .paid)) ×
+    requires { ⌜ Among c (λ b. keyBufs (b .changes) (b .fetched) (now readable) (now writable) (b .paid)) ×
         (length (now slots) ≡ 384) × (length (now step) ≡ 41) ⌝ }
-    ensures { λ r. ⌜ ((b : Bufs) → Good c (bufs (b .changes) (b .fetched) (now (readable .entry)) (now (writable .entry)) (b .paid)) →
-        Good r (bufs (b .changes) (b .fetched) (now (readable .exit)) (now (writable .exit)) (b .paid))) ⌝ }
+    ensures { λ r. ⌜ ((b : KeyBufs) → Good c (keyBufs (b .changes) (b .fetched) (now (readable .entry)) (now (writable .entry)) (b .paid)) →
+        Good r (keyBufs (b .changes) (b .fetched) (now (readable .exit)) (now (writable .exit)) (b .paid))) ⌝ }
 {
     let k = &step[1..33];
     let base = words::bytes::read(step, 33, 8);
-    let kreads = &slots[192..288];
-    let kwrites = &slots[288..];
-    let plan = keys::authorise::plan_authorise(c, kreads, kwrites, readable, writable, base, k);
+    let keyed_reads = &slots[192..288];
+    let keyed_writes = &slots[288..];
+    let plan = keys::authorise::plan_authorise(
+        c,
+        keyed_reads,
+        keyed_writes,
+        readable,
+        writable,
+        base,
+        k,
+    );
     if !plan.keyed {
         print::text(b"not keyed");
         return c;

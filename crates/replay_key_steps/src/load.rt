@@ -1,7 +1,7 @@
 // Loading a key.
 ghost use mathlib.Core.Path.{_≡_};
 ghost use lib.ListN.{length};
-ghost use Rattle.keys.specs.Lent.{Bufs, bufs};
+ghost use Rattle.keys.specs.Lent.{KeyBufs, keyBufs};
 ghost use Rattle.keys.specs.Sound.{Good};
 ghost use Rattle.replay_key_steps.specs.Sound.{Lends, Among};
 use keys::counts::Counts;
@@ -21,10 +21,10 @@ pub fn load(
     step: &[u8],
 ) -> Counts
     requires { ⌜ Lends n (now store) (now loader) ×
-        Among c (λ b. bufs (now changes) (now fetched) (now readable) (b .may-write) (b .paid)) × (length (now slots) ≡ 384) × (length (now step) ≡ 41) ⌝ }
-    ensures { λ r. ⌜ ((b : Bufs) →
-        Good c (bufs (now (changes .entry)) (now (fetched .entry)) (now (readable .entry)) (b .may-write) (b .paid)) →
-        Good r (bufs (now (changes .entry)) (now (fetched .exit)) (now (readable .entry)) (b .may-write) (b .paid))) ⌝ }
+        Among c (λ b. keyBufs (now changes) (now fetched) (now readable) (b .may-write) (b .paid)) × (length (now slots) ≡ 384) × (length (now step) ≡ 41) ⌝ }
+    ensures { λ r. ⌜ ((b : KeyBufs) →
+        Good c (keyBufs (now (changes .entry)) (now (fetched .entry)) (now (readable .entry)) (b .may-write) (b .paid)) →
+        Good r (keyBufs (now (changes .entry)) (now (fetched .exit)) (now (readable .entry)) (b .may-write) (b .paid))) ⌝ }
 {
     let k = &step[1..33];
     let reads = &slots[..96];

@@ -6,17 +6,17 @@ ghost use lib.ListN.{length};
 use keys::look::TableRows;
 use tables::check::Checked;
 
-fn checked(present: bool, slots: &[u8], store: &[u8], loader: &[u8], records: &[u8])
+fn checked(has_loader: bool, slots: &[u8], store: &[u8], loader: &[u8], records: &[u8])
     requires { ⌜ length (now slots) ≡ 384 ⌝ }
 {
     match tables::check::check(store, 40) {
         Checked::Bad => print::text(b"no 45\n"),
-        Checked::Whole(ns) => match tables::check::check_if(present, loader, 40) {
+        Checked::Whole(ns) => match tables::check::check_if(has_loader, loader, 40) {
             Checked::Bad => print::text(b"no 45\n"),
             Checked::Whole(nl) => {
                 let n = TableRows {
                     store: ns,
-                    present: present,
+                    has_loader: has_loader,
                     loader: nl,
                 };
                 crate::steps::steps(n, slots, store, loader, records);

@@ -1,7 +1,7 @@
 // The records of a run: an operation (1 byte), a key (32) and a value (8).
 ghost use mathlib.Core.Path.{_≡_};
 ghost use lib.ListN.{length};
-ghost use Rattle.keys.specs.Lent.{bufs};
+ghost use Rattle.keys.specs.Lent.{keyBufs};
 ghost use Rattle.keys.specs.Sound.{Good};
 ghost use Rattle.replay_key_steps.specs.Sound.{Lends};
 use keys::counts::Counts;
@@ -21,8 +21,8 @@ fn one(
     paid: &mut [u8],
 ) -> Counts
     requires { ⌜ Lends n (now store) (now loader) ×
-        Good c (bufs (now changes) (now fetched) (now readable) (now writable) (now paid)) × (length (now slots) ≡ 384) × (length (now step) ≡ 41) ⌝ }
-    ensures { λ r. ⌜ Good r (bufs (now (changes .exit)) (now (fetched .exit)) (now (readable .exit)) (now (writable .exit)) (now (paid .exit))) ⌝ }
+        Good c (keyBufs (now changes) (now fetched) (now readable) (now writable) (now paid)) × (length (now slots) ≡ 384) × (length (now step) ≡ 41) ⌝ }
+    ensures { λ r. ⌜ Good r (keyBufs (now (changes .exit)) (now (fetched .exit)) (now (readable .exit)) (now (writable .exit)) (now (paid .exit))) ⌝ }
 {
     match step[0] {
         0 => crate::load::load(n, c, slots, store, loader, changes, fetched, readable, step),

@@ -1,7 +1,7 @@
 // Storing a value at a key.
 ghost use mathlib.Core.Path.{_≡_};
 ghost use lib.ListN.{length};
-ghost use Rattle.keys.specs.Lent.{Bufs, bufs};
+ghost use Rattle.keys.specs.Lent.{KeyBufs, keyBufs};
 ghost use Rattle.keys.specs.Sound.{Good};
 ghost use Rattle.replay_key_steps.specs.Sound.{Lends, Among};
 use keys::counts::Counts;
@@ -22,10 +22,10 @@ pub fn store(
     step: &[u8],
 ) -> Counts
     requires { ⌜ Lends n (now store) (now loader) ×
-        Among c (λ b. bufs (now changes) (now fetched) (b .may-read) (now writable) (now paid)) × (length (now slots) ≡ 384) × (length (now step) ≡ 41) ⌝ }
-    ensures { λ r. ⌜ ((b : Bufs) →
-        Good c (bufs (now (changes .entry)) (now (fetched .entry)) (b .may-read) (now (writable .entry)) (now (paid .entry))) →
-        Good r (bufs (now (changes .exit)) (now (fetched .exit)) (b .may-read) (now (writable .entry)) (now (paid .exit)))) ⌝ }
+        Among c (λ b. keyBufs (now changes) (now fetched) (b .may-read) (now writable) (now paid)) × (length (now slots) ≡ 384) × (length (now step) ≡ 41) ⌝ }
+    ensures { λ r. ⌜ ((b : KeyBufs) →
+        Good c (keyBufs (now (changes .entry)) (now (fetched .entry)) (b .may-read) (now (writable .entry)) (now (paid .entry))) →
+        Good r (keyBufs (now (changes .exit)) (now (fetched .exit)) (b .may-read) (now (writable .entry)) (now (paid .exit)))) ⌝ }
 {
     let k = &step[1..33];
     let v = words::bytes::read(step, 33, 8);

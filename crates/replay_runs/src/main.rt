@@ -24,12 +24,12 @@ fn host() -> Host {
 // The call that a record's head asks for.
 fn read_head(r: &[u8]) -> Call {
     let limit = cut::number(r, 5, 8);
-    let present = cut::number(r, 13, 1) == 1;
+    let has_loader = cut::number(r, 13, 1) == 1;
     if cut::number(r, 0, 1) == 1 {
-        return Call::for_genesis(limit, host(), present);
+        return Call::for_genesis(limit, host(), has_loader);
     }
     let selector = (cut::number(r, 1, 4) % 4294967296) as u32;
-    Call::for_entry(selector, limit, host(), present)
+    Call::for_entry(selector, limit, host(), has_loader)
 }
 
 fn line(

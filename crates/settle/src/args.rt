@@ -1,5 +1,5 @@
 // The program's arguments: files by their order, options by their names.
-use text::number::Parsed;
+use text::number::ParsedNumber;
 
 // The Rust's genesis selector, and the signed bytes of ML-DSA-65 and of SLH-DSA 128s: key and signature.
 const GENESIS: u64 = 0xD4A3_FCE6;
@@ -127,7 +127,7 @@ fn option(asked: Asked, kind: u64, word: &[u8]) -> Asked {
 // The number that an option waits for.
 fn number(asked: Asked, word: &[u8]) -> Asked {
     let p = text::number::parse(word);
-    let Parsed::Number(n) = p else {
+    let ParsedNumber::Number(n) = p else {
         return refused(asked, word, b"no decimal number below 2^64");
     };
     let mut a = asked;

@@ -1,7 +1,10 @@
+-- definitions
 pub mod Starts
+pub mod Walk
 pub mod Marks
+-- laws
 pub mod SweepLaws
 pub mod MarkLaws
 pub mod ScanLaws
 pub mod WalkLaws
-pub mod EnoughConsts
+pub mod StartsLaws

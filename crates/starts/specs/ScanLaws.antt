@@ -13,7 +13,7 @@ use Rattle.isa.specs.Codec.{decodeAt}
 use Rattle.isa.specs.declared.instr.Instr.{Instr}
 use Rattle.isa.specs.declared.codec.DecodeError.{DecodeError}
 use Rattle.isa.specs.declared.codec.Decoded.the-variants.{Done, Refused}
-use Rattle.starts.specs.Starts.{Walk, ended, met, unlessBad, walkBy, walk, walkOf, indexOf}
+use Rattle.starts.specs.Walk.{Walk, ended, met, unlessBad, walkBy, walk, walkOf, indexOf}
 use Rattle.isa.specs.Refers.{refersTo}
 use Rattle.starts.specs.Marks.{marked, markIn, Marks}
 use Rattle.starts.specs.MarkLaws.{mark-at}
@@ -24,8 +24,8 @@ use Rattle.starts.specs.declared.scan_answers.Stands.the-variants.{Yes, 
 use Rattle.starts.specs.declared.scan_answers.Scan.the-variants.{Whole, Undecodable, BadConst}
 
 -- from a place on, with as many turns as bytes are left
-abbrev pub onward : (code : List ℕ) (consts place : ℕ) → Walk
-onward code consts place = walk (length code - place) code consts place
+abbrev pub walkFrom : (code : List ℕ) (consts place : ℕ) → Walk
+walkFrom code consts place = walk (length code - place) code consts place
 
 walks : (code : List ℕ) (consts : ℕ) → Sweep code (ended Whole) (λ p d k. walkBy d consts p k) (λ t p. walk t code consts p)
 unfolding walk walkBy
@@ -36,7 +36,7 @@ walks code consts = record {
   next = λ p i n k l h. rw h;
 }
 
-pub from-start : (code : List ℕ) (consts : ℕ) → walkOf code consts ≡ onward code consts 0
+pub from-start : (code : List ℕ) (consts : ℕ) → walkOf code consts ≡ walkFrom code consts 0
 unfolding walkOf
 from-start code consts = rw sub-zero
 
@@ -61,25 +61,25 @@ unless-bad (Target t) consts k w h = absurd (let z : _≡_ {A = ℕ} 0 1 = cc in
 unless-bad Nothing consts k w h = absurd (let z : _≡_ {A = ℕ} 0 1 = cc in omega arith)
 
 module _ (code : List ℕ) (consts place : ℕ) where
-  pub walk-end : length code ≤ place → onward code consts place ≡ ended Whole
+  pub walk-end : length code ≤ place → walkFrom code consts place ≡ ended Whole
   walk-end h = at-end code (ended Whole) _ _ (walks code consts) place h
 
   module _ (h : place < length code) where
-    by-decode : onward code consts place ≡ walkBy (decodeAt code place) consts place (λ q. onward code consts q)
+    by-decode : walkFrom code consts place ≡ walkBy (decodeAt code place) consts place (λ q. walkFrom code consts q)
     by-decode = on code (ended Whole) _ _ (walks code consts) place h
 
-    pub walk-refused : (e : DecodeError) → decodeAt code place ≡ Refused e → onward code consts place ≡ ended (Undecodable place e)
+    pub walk-refused : (e : DecodeError) → decodeAt code place ≡ Refused e → walkFrom code consts place ≡ ended (Undecodable place e)
     unfolding walkBy
     walk-refused e d = by-decode ∙ rw d
 
     module _ (i : Instr) (n : ℕ) (d : decodeAt code place ≡ Done i n) where
-      pub walk-bad : (k : ℕ) → indexOf (refersTo i) consts ≡ No k → onward code consts place ≡ met place (ended (BadConst k))
+      pub walk-bad : (k : ℕ) → indexOf (refersTo i) consts ≡ No k → walkFrom code consts place ≡ met place (ended (BadConst k))
       unfolding walkBy
-      walk-bad k b = by-decode ∙ rw (d, unless-bad (refersTo i) consts k (onward code consts (place + n)) b)
+      walk-bad k b = by-decode ∙ rw (d, unless-bad (refersTo i) consts k (walkFrom code consts (place + n)) b)
 
-      pub walk-on : indexOf (refersTo i) consts ≡ Yes → onward code consts place ≡ met place (onward code consts (place + n))
+      pub walk-on : indexOf (refersTo i) consts ≡ Yes → walkFrom code consts place ≡ met place (walkFrom code consts (place + n))
       unfolding walkBy
-      walk-on b = by-decode ∙ rw (d, unless-within (refersTo i) consts (onward code consts (place + n)) b)
+      walk-on b = by-decode ∙ rw (d, unless-within (refersTo i) consts (walkFrom code consts (place + n)) b)
 
 -- ---- the map
 
@@ -105,8 +105,8 @@ marks-more map place ws after m =
 
 -- what is left of the reading decides: its end, and what a map comes to
 pub record Scanning (code : List ℕ) (consts : ℕ) (start : List ℕ) (place : ℕ) (map : List ℕ) : Type 0 where
-  pub end : walkOf code consts .end ≡ onward code consts place .end
-  pub finish : (after : List ℕ) → Marks map (onward code consts place .starts) after → Marks start (walkOf code consts .starts) after
+  pub end : walkOf code consts .end ≡ walkFrom code consts place .end
+  pub finish : (after : List ℕ) → Marks map (walkFrom code consts place .starts) after → Marks start (walkOf code consts .starts) after
   pub size : length map ≡ length start
 
 pub scan-begins : (code : List ℕ) (consts : ℕ) (map : List ℕ) → Scanning code consts map 0 map
@@ -119,7 +119,7 @@ abbrev pub Scanned : (code : List ℕ) (consts : ℕ) (start : List ℕ) → Wal
 Scanned code consts start w after = (w .end ≡ walkOf code consts .end) × Marks start (walkOf code consts .starts) after
 
 module _ (code : List ℕ) (consts : ℕ) (start : List ℕ) (place : ℕ) (map : List ℕ) (i : Scanning code consts start place map) where
-  stopped : (w : Walk) → onward code consts place ≡ w → (after : List ℕ) → Marks map (w .starts) after → Scanned code consts start w after
+  stopped : (w : Walk) → walkFrom code consts place ≡ w → (after : List ℕ) → Marks map (w .starts) after → Scanned code consts start w after
   stopped w e after m = (sym (i .end ∙ ap (λ (w : Walk). w .end) e), i .finish after (rw e m))
 
   pub scan-end : length code ≤ place → Scanned code consts start (ended Whole) map
@@ -144,6 +144,6 @@ module _ (code : List ℕ) (consts : ℕ) (start : List ℕ) (place : ℕ) (map 
           let e = walk-on code consts place h x n d b in
           record {
             end = i .end ∙ ap (λ (w : Walk). w .end) e;
-            finish = λ last k. i .finish last (rw e (marks-more map place (onward code consts (place + n) .starts) last (rw (← m) k)));
+            finish = λ last k. i .finish last (rw e (marks-more map place (walkFrom code consts (place + n) .starts) last (rw (← m) k)));
             size = ap length m ∙ length-mark map place ∙ i .size;
           }

@@ -9,7 +9,7 @@ use lib.ListN.{length}
 use borrow.Author.Tests.{le-leb, lt-leb, leb-true, leb-false}
 use Rattle.words.specs.Choice.{pick}
 use Rattle.isa.specs.Codec.{decodeAt}
-use Rattle.isa.specs.RoundTrip.{decode-place}
+use Rattle.isa.specs.RoundTripTheorems.{decode-place}
 use Rattle.isa.specs.declared.instr.Instr.{Instr}
 use Rattle.isa.specs.declared.codec.DecodeError.{DecodeError}
 use Rattle.isa.specs.declared.codec.Decoded.{Decoded}

@@ -15,7 +15,7 @@ use Rattle.isa.specs.declared.instr.Instr.{Instr}
 use Rattle.isa.specs.declared.codec.DecodeError.{DecodeError}
 use Rattle.isa.specs.declared.codec.Decoded.{Decoded}
 use Rattle.isa.specs.declared.codec.Decoded.the-variants.{Done, Refused}
-use Rattle.starts.specs.Starts.{Walk, ended, met, unlessBad, walkBy, walk, walkOf}
+use Rattle.starts.specs.Walk.{Walk, ended, met, unlessBad, walkBy, walk, walkOf}
 use Rattle.isa.specs.Refers.{refersTo}
 use Rattle.starts.specs.Marks.{marked, Marks, Holds}
 use Rattle.starts.specs.MarkLaws.{past-map}
@@ -63,23 +63,22 @@ starts-within code consts p h =
     })
     (length code) 0
 
--- a map of zeroes, with the starts of at most eight times as many code bytes marked, holds them
-pub zero-unmarked : (n p : ℕ) → p < 8 * n → marked (replicate n 0) p ≡ false
+zero-unmarked : (n p : ℕ) → p < 8 * n → marked (replicate n 0) p ≡ false
 unfolding marked
 zero-unmarked n p h = rw (getD-replicate {A = ℕ} n (p / 8) 0 0 (omega arith), zero-div (2 ^ (p % 8)))
 
-pub holds-starts : (n : ℕ) (code : List ℕ) (consts : ℕ) (map : List ℕ) → length code ≤ 8 * n → Marks (replicate n 0) (walkOf code consts .starts) map →
-    Holds map (walkOf code consts .starts)
-holds-starts n code consts map h m = record { at = λ p. by p (ltb p (8 * n)) refl }
+-- a map of zeroes with places marked, none of them past it, holds them
+pub holds-marked : (n : ℕ) (places map : List ℕ) → ((p : ℕ) → 8 * n ≤ p → member p places ≡ false) → Marks (replicate n 0) places map → Holds map places
+holds-marked n places map past m = record { at = λ p. by p (ltb p (8 * n)) refl }
   where
     or-false : (a b : Bool) → b ≡ false → either a b ≡ a
     or-false true b e = refl
     or-false false b e = e
 
-    by : (p : ℕ) (t : Bool) → ltb p (8 * n) ≡ t → marked map p ≡ member p (walkOf code consts .starts)
+    by : (p : ℕ) (t : Bool) → ltb p (8 * n) ≡ t → marked map p ≡ member p places
     by p true q =
         let l = ltb-true p (8 * n) q in
-        m .at p (rw length-replicate l) ∙ or-false (member p (walkOf code consts .starts)) (marked (replicate n 0) p) (zero-unmarked n p l)
+        m .at p (rw length-replicate l) ∙ or-false (member p places) (marked (replicate n 0) p) (zero-unmarked n p l)
     by p false q =
         let l = ltb-false p (8 * n) q in
-        sym (past-map map p (omega (arith, m .size, length-replicate {A = ℕ} n 0))) ∙ sym (starts-within code consts p (omega arith))
+        sym (past-map map p (omega (arith, m .size, length-replicate {A = ℕ} n 0))) ∙ sym (past p l)

@@ -1,6 +1,6 @@
 // Reading the code from place to place: its instruction starts, and the constants that instructions name.
 ghost use mathlib.Core.Path.{_≡_};
-ghost use Rattle.starts.specs.Starts.{walkOf, indexOf};
+ghost use Rattle.starts.specs.Walk.{walkOf, indexOf};
 ghost use Rattle.starts.specs.Marks.{Marks};
 use super::scan_answers::Scan;
 use super::scan_answers::Stands;

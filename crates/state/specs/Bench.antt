@@ -8,13 +8,13 @@ use Rattle.isa.specs.Kinds.{registerOp}
 use Rattle.isa.specs.Codec.{firstBad}
 use Rattle.state.specs.declared.regs.RegFile.{RegFile}
 use Rattle.state.specs.declared.regs.Stepped.{Stepped}
-use Rattle.state.specs.Regs.{refused, stepOf}
+use Rattle.state.specs.Regs.{refused, registerStep}
 
 -- a register of 16 or more refuses the step
-abbrev pub unlessBad : FirstBad → RegFile → Stepped → Stepped
-unlessBad (Bad r) f s = refused f 16
-unlessBad NoneBad f s = s
+abbrev pub unlessBadRegister : FirstBad → RegFile → Stepped → Stepped
+unlessBadRegister (Bad r) f s = refused f 16
+unlessBadRegister NoneBad f s = s
 
 -- the file after an instruction and its number; every refusal leaves the file as it was
 abbrev pub benchOf : Instr → RegFile → Stepped
-benchOf i f = pick (registerOp (formOf i .op)) (unlessBad (firstBad (formOf i .regs)) f (stepOf i f)) (refused f 50)
+benchOf i f = pick (registerOp (formOf i .op)) (unlessBadRegister (firstBad (formOf i .regs)) f (registerStep i f)) (refused f 50)

@@ -9,14 +9,14 @@ use Rattle.isa.specs.Forms.{formOf}
 use Rattle.isa.specs.Kinds.{registerOp}
 use Rattle.isa.specs.Codec.{firstBad}
 use Rattle.state.specs.declared.regs.RegFile.{RegFile}
-use Rattle.state.specs.Regs.{Keeps, refused, stepOf}
+use Rattle.state.specs.Regs.{FaultKeeps, refused, registerStep}
 use Rattle.state.specs.RegsTheorems.{step-keeps}
-use Rattle.state.specs.Bench.{unlessBad, benchOf}
+use Rattle.state.specs.Bench.{unlessBadRegister, benchOf}
 
-pub bench-keeps : (i : Instr) (f : RegFile) → Keeps f (benchOf i f)
+pub bench-keeps : (i : Instr) (f : RegFile) → FaultKeeps f (benchOf i f)
 bench-keeps i f = go (registerOp (formOf i .op)) (firstBad (formOf i .regs))
   where
-    go : (t : Bool) (b : FirstBad) → Keeps f (pick t (unlessBad b f (stepOf i f)) (refused f 50))
+    go : (t : Bool) (b : FirstBad) → FaultKeeps f (pick t (unlessBadRegister b f (registerStep i f)) (refused f 50))
     go true (Bad r) = λ n. refl
     go true NoneBad = step-keeps i f
     go false b = λ n. refl

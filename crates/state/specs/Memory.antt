@@ -22,7 +22,7 @@ abbrev pub regionOf : (size offset len : ℕ) → Region
 regionOf size offset len = pick (inside size offset len) (Part offset (offset + len)) Outside
 
 -- a part is inside, from its offset on
-pub record Found (size offset len start end : ℕ) : Type 0 where
+pub record PartFound (size offset len start end : ℕ) : Type 0 where
   pub within : inside size offset len ≡ true
   pub begin : start ≡ offset
   pub stop : end ≡ offset + len

@@ -8,7 +8,7 @@ use lib.ListN.{length, take, drop, length-drop}
 use lib.Seq.{length-take-le}
 use borrow.Author.Tests.{leb-true}
 use Rattle.words.specs.Choice.{pick}
-use Rattle.state.specs.Memory.{inside, Found, regionOf}
+use Rattle.state.specs.Memory.{inside, PartFound, regionOf}
 use Rattle.state.specs.declared.memory.Region.{Region}
 use Rattle.state.specs.declared.memory.Region.the-variants.{Part, Outside}
 
@@ -21,10 +21,10 @@ module _ (size offset len : ℕ) (x : Region) (h : x ≡ regionOf size offset le
       go false t z = t
 
   module _ (start end : ℕ) (k : x ≡ Part start end) where
-    pub found : Found size offset len start end
+    pub found : PartFound size offset len start end
     found = go (inside size offset len) refl (sym h ∙ k)
       where
-        go : (t : Bool) → inside size offset len ≡ t → pick t (Part offset (offset + len)) Outside ≡ Part start end → Found size offset len start end
+        go : (t : Bool) → inside size offset len ≡ t → pick t (Part offset (offset + len)) Outside ≡ Part start end → PartFound size offset len start end
         go true t z = record { within = t; begin = cc; stop = cc }
         go false t z = absurd (let w : _≡_ {A = ℕ} 0 1 = cc in omega arith)
 

@@ -43,8 +43,8 @@ abbrev pub refused : RegFile → ℕ → Stepped
 refused f n = record { file = f; fault = n }
 
 -- what faults leaves the file as it was
-abbrev pub Keeps : RegFile → Stepped → Type 0
-Keeps f s = (s .fault ≡ 0 → ⊥) → s .file ≡ f
+abbrev pub FaultKeeps : RegFile → Stepped → Type 0
+FaultKeeps f s = (s .fault ≡ 0 → ⊥) → s .file ≡ f
 
 -- a value put into a register
 abbrev pub putValue : RegFile → ℕ → Value → Stepped
@@ -77,47 +77,47 @@ abbrev pub ruleWide : Wanted → RegFile → (dlo dhi alo ahi blo bhi : ℕ) →
 ruleWide w f dlo dhi alo ahi blo bhi = overWide f dlo dhi (wideReg f blo bhi) (partOf w (wideReg f alo ahi) (wideReg f blo bhi))
 
 -- what an instruction does to the registers; 50 where it is no register operation
-unfoldable pub stepOf : Instr → RegFile → Stepped
-stepOf instr.Halt f = refused f 50
-stepOf instr.Nop f = refused f 50
-stepOf (instr.Mov d a) f = done (setReg f d (reg f a))
-stepOf (instr.Ldi d imm) f = done (setReg f d imm)
-stepOf (instr.Ldc d idx) f = refused f 50
-stepOf (instr.Add d a b) f = ruleTwo op.Add f d a b
-stepOf (instr.Sub d a b) f = ruleTwo op.Sub f d a b
-stepOf (instr.Mul d a b) f = ruleTwo op.Mul f d a b
-stepOf (instr.Div d a b) f = ruleTwo op.Div f d a b
-stepOf (instr.Rem d a b) f = ruleTwo op.Rem f d a b
-stepOf (instr.AddW d a b) f = ruleTwo op.AddW f d a b
-stepOf (instr.SubW d a b) f = ruleTwo op.SubW f d a b
-stepOf (instr.MulW d a b) f = ruleTwo op.MulW f d a b
-stepOf (instr.MulHi d a b) f = ruleTwo op.MulHi f d a b
-stepOf (instr.DivW dlo dhi alo ahi blo bhi) f = ruleWide Quotient f dlo dhi alo ahi blo bhi
-stepOf (instr.RemW dlo dhi alo ahi blo bhi) f = ruleWide Rest f dlo dhi alo ahi blo bhi
-stepOf (instr.And d a b) f = ruleTwo op.And f d a b
-stepOf (instr.Or d a b) f = ruleTwo op.Or f d a b
-stepOf (instr.Xor d a b) f = ruleTwo op.Xor f d a b
-stepOf (instr.Not d a) f = done (setReg f d (2 ^ 64 - 1 - reg f a))
-stepOf (instr.Shl d a b) f = ruleTwo op.Shl f d a b
-stepOf (instr.Shr d a b) f = ruleTwo op.Shr f d a b
-stepOf (instr.Eq d a b) f = ruleTwo op.Eq f d a b
-stepOf (instr.LtU d a b) f = ruleTwo op.LtU f d a b
-stepOf (instr.GtU d a b) f = ruleTwo op.GtU f d a b
-stepOf (instr.Push a) f = refused f 50
-stepOf (instr.Pop d) f = refused f 50
-stepOf (instr.MLoad d a) f = refused f 50
-stepOf (instr.MStore a b) f = refused f 50
-stepOf (instr.Jmp target) f = refused f 50
-stepOf (instr.Jz a target) f = refused f 50
-stepOf (instr.Jnz a target) f = refused f 50
-stepOf (instr.Call target) f = refused f 50
-stepOf instr.Ret f = refused f 50
-stepOf (instr.SLoad d a) f = refused f 50
-stepOf (instr.SStore a b) f = refused f 50
-stepOf (instr.Send a b c) f = refused f 50
-stepOf (instr.Emit a b c) f = refused f 50
-stepOf (instr.Hash a b c) f = refused f 50
-stepOf (instr.VerifyMl a b c) f = refused f 50
-stepOf (instr.VerifySlh a b c) f = refused f 50
-stepOf (instr.MerkleVerify a b c) f = refused f 50
-stepOf (instr.Addr a b c) f = refused f 50
+unfoldable pub registerStep : Instr → RegFile → Stepped
+registerStep instr.Halt f = refused f 50
+registerStep instr.Nop f = refused f 50
+registerStep (instr.Mov d a) f = done (setReg f d (reg f a))
+registerStep (instr.Ldi d imm) f = done (setReg f d imm)
+registerStep (instr.Ldc d idx) f = refused f 50
+registerStep (instr.Add d a b) f = ruleTwo op.Add f d a b
+registerStep (instr.Sub d a b) f = ruleTwo op.Sub f d a b
+registerStep (instr.Mul d a b) f = ruleTwo op.Mul f d a b
+registerStep (instr.Div d a b) f = ruleTwo op.Div f d a b
+registerStep (instr.Rem d a b) f = ruleTwo op.Rem f d a b
+registerStep (instr.AddW d a b) f = ruleTwo op.AddW f d a b
+registerStep (instr.SubW d a b) f = ruleTwo op.SubW f d a b
+registerStep (instr.MulW d a b) f = ruleTwo op.MulW f d a b
+registerStep (instr.MulHi d a b) f = ruleTwo op.MulHi f d a b
+registerStep (instr.DivW dlo dhi alo ahi blo bhi) f = ruleWide Quotient f dlo dhi alo ahi blo bhi
+registerStep (instr.RemW dlo dhi alo ahi blo bhi) f = ruleWide Rest f dlo dhi alo ahi blo bhi
+registerStep (instr.And d a b) f = ruleTwo op.And f d a b
+registerStep (instr.Or d a b) f = ruleTwo op.Or f d a b
+registerStep (instr.Xor d a b) f = ruleTwo op.Xor f d a b
+registerStep (instr.Not d a) f = done (setReg f d (2 ^ 64 - 1 - reg f a))
+registerStep (instr.Shl d a b) f = ruleTwo op.Shl f d a b
+registerStep (instr.Shr d a b) f = ruleTwo op.Shr f d a b
+registerStep (instr.Eq d a b) f = ruleTwo op.Eq f d a b
+registerStep (instr.LtU d a b) f = ruleTwo op.LtU f d a b
+registerStep (instr.GtU d a b) f = ruleTwo op.GtU f d a b
+registerStep (instr.Push a) f = refused f 50
+registerStep (instr.Pop d) f = refused f 50
+registerStep (instr.MLoad d a) f = refused f 50
+registerStep (instr.MStore a b) f = refused f 50
+registerStep (instr.Jmp target) f = refused f 50
+registerStep (instr.Jz a target) f = refused f 50
+registerStep (instr.Jnz a target) f = refused f 50
+registerStep (instr.Call target) f = refused f 50
+registerStep instr.Ret f = refused f 50
+registerStep (instr.SLoad d a) f = refused f 50
+registerStep (instr.SStore a b) f = refused f 50
+registerStep (instr.Send a b c) f = refused f 50
+registerStep (instr.Emit a b c) f = refused f 50
+registerStep (instr.Hash a b c) f = refused f 50
+registerStep (instr.VerifyMl a b c) f = refused f 50
+registerStep (instr.VerifySlh a b c) f = refused f 50
+registerStep (instr.MerkleVerify a b c) f = refused f 50
+registerStep (instr.Addr a b c) f = refused f 50

@@ -20,7 +20,7 @@ use Rattle.state.specs.declared.regs.Outcome.the-variants as outcome
 use Rattle.state.specs.declared.regs.RegFile.{RegFile}
 use Rattle.state.specs.declared.regs.Stepped.{Stepped}
 use Rattle.state.specs.Alu.{aluOf, partOf}
-use Rattle.state.specs.Regs.{reg, setReg, done, refused, putValue, wideReg, setWide, ruleTwo, overWide, ruleWide, applied, stepOf}
+use Rattle.state.specs.Regs.{reg, setReg, done, refused, putValue, wideReg, setWide, ruleTwo, overWide, ruleWide, applied, registerStep}
 
 -- past the last register there is none
 pub read-past : (l : List ℕ) (i : ℕ) → length l ≤ i → 0 ≡ getD l i 0
@@ -71,20 +71,20 @@ pub not-zero : (d : ℕ) (z : Bool) → z ≡ eqb d 0 → z ≡ false → 0 < d
 not-zero d z t h = let k = eqb-false d 0 (sym t ∙ h) in omega (arith, k)
 
 -- what an arm is told of its instruction
-pub step-told : (i j : Instr) (f : RegFile) (s : Stepped) → i ≡ j → s ≡ stepOf j f → s ≡ stepOf i f
+pub step-told : (i j : Instr) (f : RegFile) (s : Stepped) → i ≡ j → s ≡ registerStep j f → s ≡ registerStep i f
 step-told i j f s e h = rw e h
 
-pub mov-told : (i : Instr) (f : RegFile) (d a v : ℕ) → i ≡ Mov d a → v ≡ reg f a → done (setReg f d v) ≡ stepOf i f
-unfolding stepOf
+pub mov-told : (i : Instr) (f : RegFile) (d a v : ℕ) → i ≡ Mov d a → v ≡ reg f a → done (setReg f d v) ≡ registerStep i f
+unfolding registerStep
 mov-told i f d a v e k = step-told i (Mov d a) f (done (setReg f d v)) e (ap (λ (x : ℕ). done (setReg f d x)) k)
 
-pub not-told : (i : Instr) (f : RegFile) (d a v : ℕ) → i ≡ Not d a → v ≡ reg f a → done (setReg f d (2 ^ 64 - 1 - v)) ≡ stepOf i f
-unfolding stepOf
+pub not-told : (i : Instr) (f : RegFile) (d a v : ℕ) → i ≡ Not d a → v ≡ reg f a → done (setReg f d (2 ^ 64 - 1 - v)) ≡ registerStep i f
+unfolding registerStep
 not-told i f d a v e k = step-told i (Not d a) f (done (setReg f d (2 ^ 64 - 1 - v))) e (ap (λ (x : ℕ). done (setReg f d (2 ^ 64 - 1 - x))) k)
 
 -- the ends of a step: what the outcome says is done
-pub apply-done : (i : Instr) (f g h : RegFile) (o p : Outcome) → applied f o ≡ stepOf i f → o ≡ p → g ≡ h → done h ≡ applied f p → done g ≡ stepOf i f
+pub apply-done : (i : Instr) (f g h : RegFile) (o p : Outcome) → applied f o ≡ registerStep i f → o ≡ p → g ≡ h → done h ≡ applied f p → done g ≡ registerStep i f
 apply-done i f g h o p e k q r = ap done q ∙ r ∙ ap (applied f) (sym k) ∙ e
 
-pub apply-fault : (i : Instr) (f : RegFile) (o : Outcome) (n : ℕ) → applied f o ≡ stepOf i f → o ≡ outcome.Fault n → refused f n ≡ stepOf i f
+pub apply-fault : (i : Instr) (f : RegFile) (o : Outcome) (n : ℕ) → applied f o ≡ registerStep i f → o ≡ outcome.Fault n → refused f n ≡ registerStep i f
 apply-fault i f o n e k = ap (applied f) (sym k) ∙ e

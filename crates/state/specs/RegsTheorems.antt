@@ -16,32 +16,32 @@ use Rattle.state.specs.declared.alu.Wanted.{Wanted}
 use Rattle.state.specs.declared.alu.Wanted.the-variants.{Quotient, Rest}
 use Rattle.state.specs.declared.regs.RegFile.{RegFile}
 use Rattle.state.specs.Alu.{aluOf}
-use Rattle.state.specs.Regs.{Keeps, reg, setReg, setWide, done, refused, putValue, wideReg, ruleTwo, ruleWide, stepOf}
+use Rattle.state.specs.Regs.{FaultKeeps, reg, setReg, setWide, done, refused, putValue, wideReg, ruleTwo, ruleWide, registerStep}
 
 -- with one register for both words the high one stays
 pub high-stays : (f : RegFile) (d v : ℕ) → d < length (f .r) → reg (setWide f d d v) d ≡ v / 2 ^ 64
 high-stays f d v h = getD-set-same (set (f .r) d (v % 2 ^ 64)) d (v / 2 ^ 64) 0 (lt-length-set (f .r) d (v % 2 ^ 64) h)
 
 -- what faults leaves the file as it was
-done-keeps : (f g : RegFile) → Keeps f (done g)
+done-keeps : (f g : RegFile) → FaultKeeps f (done g)
 done-keeps f g n = absurd (n refl)
 
-put-keeps : (f : RegFile) (d : ℕ) (v : Value) → Keeps f (putValue f d v)
+put-keeps : (f : RegFile) (d : ℕ) (v : Value) → FaultKeeps f (putValue f d v)
 put-keeps f d (Done v) = done-keeps f (setReg f d v)
 put-keeps f d (Fault k) = λ n. refl
 
-pick-keeps : (t : Bool) (f g : RegFile) → Keeps f (pick t (refused f 3) (done g))
+pick-keeps : (t : Bool) (f g : RegFile) → FaultKeeps f (pick t (refused f 3) (done g))
 pick-keeps true f g = λ n. refl
 pick-keeps false f g = done-keeps f g
 
-two-keeps : (o : Op) (f : RegFile) (d a b : ℕ) → Keeps f (ruleTwo o f d a b)
+two-keeps : (o : Op) (f : RegFile) (d a b : ℕ) → FaultKeeps f (ruleTwo o f d a b)
 two-keeps o f d a b = put-keeps f d (aluOf o (reg f a) (reg f b))
 
-wide-keeps : (w : Wanted) (f : RegFile) (dlo dhi alo ahi blo bhi : ℕ) → Keeps f (ruleWide w f dlo dhi alo ahi blo bhi)
+wide-keeps : (w : Wanted) (f : RegFile) (dlo dhi alo ahi blo bhi : ℕ) → FaultKeeps f (ruleWide w f dlo dhi alo ahi blo bhi)
 wide-keeps w f dlo dhi alo ahi blo bhi = pick-keeps (eqb (wideReg f blo bhi) 0) f _
 
-pub step-keeps : (i : Instr) (f : RegFile) → Keeps f (stepOf i f)
-unfolding stepOf
+pub step-keeps : (i : Instr) (f : RegFile) → FaultKeeps f (registerStep i f)
+unfolding registerStep
 step-keeps i f =
     elim i [
       | instr.Halt ↦ λ n. refl

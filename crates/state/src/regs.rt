@@ -4,7 +4,7 @@ ghost use Prim.Native.Nat.{_+_, _*_, _^_};
 ghost use lib.Dec.{eqb};
 ghost use lib.ListN.{getD};
 ghost use Rattle.words.specs.Wide.{wide};
-ghost use Rattle.state.specs.Regs.{cleared, file, reg, setReg, setWide, ruleTwo, ruleWide, applied, stepOf};
+ghost use Rattle.state.specs.Regs.{cleared, file, reg, setReg, setWide, ruleTwo, ruleWide, applied, registerStep};
 use super::alu::Op;
 use super::alu::Value;
 use super::alu::Wanted;
@@ -80,7 +80,7 @@ fn divide(r: &[u64], want: Wanted, dlo: u8, dhi: u8, alo: u8, ahi: u8, blo: u8, 
 
 // What an instruction does to registers that stand in a slice.
 pub fn operate(r: &[u64], i: Instr) -> Outcome
-    ensures { λ o. ⌜ applied (file (now (r .entry))) o ≡ stepOf i (file (now (r .entry))) ⌝ }
+    ensures { λ o. ⌜ applied (file (now (r .entry))) o ≡ registerStep i (file (now (r .entry))) ⌝ }
 {
     match i {
         Instr::Halt => Outcome::Fault(50),
@@ -177,7 +177,7 @@ impl RegFile {
 
     // One instruction, if it is a register operation.
     pub fn step(mut self, i: Instr) -> Stepped
-        ensures { λ s. ⌜ s ≡ stepOf i self ⌝ }
+        ensures { λ s. ⌜ s ≡ registerStep i self ⌝ }
     {
         let o = operate(&self.r, i);
         match o {

@@ -11,11 +11,11 @@ use lib.Dec.{leb}
 use borrow.Author.Tests.{le-leb, leb-true}
 use Rattle.tables.specs.Rows.{Row, Rising}
 use Rattle.tables.specs.Checked.{risingb}
-use Rattle.tables.specs.Walks.{at, Adjacent}
+use Rattle.tables.specs.Walks.{keyOfRow, Adjacent}
 use Rattle.tables.specs.SortedLaws.{rising-at}
 
-adjacent-rising : (lo : ℕ) (rs : List Row) → Adjacent rs (length rs) → (0 < length rs → lo ≤ at rs 0) → Rising lo rs
-unfolding at
+adjacent-rising : (lo : ℕ) (rs : List Row) → Adjacent rs (length rs) → (0 < length rs → lo ≤ keyOfRow rs 0) → Rising lo rs
+unfolding keyOfRow
 adjacent-rising lo [] a h = tt
 adjacent-rising lo (r ∷ rs) a h = (h (omega arith), adjacent-rising (suc (r .key)) rs (λ p l. a (suc p) (omega arith)) (λ l. a 0 (omega arith)))
 
@@ -42,15 +42,15 @@ not-rising rs h = go (risingb 0 rs) refl
     go false e = e
 
 -- in a turn of the loop, and at its ends
-pub adjacent-more : (rs : List Row) (i j : ℕ) → i ≡ suc j → Adjacent rs i → at rs j < at rs i → Adjacent rs (i + 1)
+pub adjacent-more : (rs : List Row) (i j : ℕ) → i ≡ suc j → Adjacent rs i → keyOfRow rs j < keyOfRow rs i → Adjacent rs (i + 1)
 adjacent-more rs i j e a h p l = go (eq-or-lt-of-le (omega arith))
   where
-    go : (suc p ≡ i) ⊎ (suc p < i) → at rs p < at rs (suc p)
+    go : (suc p ≡ i) ⊎ (suc p < i) → keyOfRow rs p < keyOfRow rs (suc p)
     go (inl q) = let pj : p ≡ j = omega arith in rw (q, pj) h
     go (inr q) = a p q
 
 pub adjacent-all : (rs : List Row) (n i : ℕ) → length rs ≡ n → n ≤ i → Adjacent rs i → risingb 0 rs ≡ true
 adjacent-all rs n i e h a = rising-true 0 rs (adjacent-rising 0 rs (λ p l. a p (omega arith)) (λ l. omega arith))
 
-pub adjacent-not : (rs : List Row) (n i j : ℕ) → length rs ≡ n → i ≡ suc j → i < n → at rs i ≤ at rs j → risingb 0 rs ≡ false
+pub adjacent-not : (rs : List Row) (n i j : ℕ) → length rs ≡ n → i ≡ suc j → i < n → keyOfRow rs i ≤ keyOfRow rs j → risingb 0 rs ≡ false
 adjacent-not rs n i j e q h k = not-rising rs (λ s. omega (arith, rising-at 0 rs j i s (omega arith) (omega arith)))

@@ -1,5 +1,4 @@
 -- Rows of a key and a value, in bytes and sorted by key (document 01, Lent input: rows are key 32, value 8; a set is rows of 32).
-use mathlib.Core.Bool.{Bool, true, false}
 use mathlib.Core.List.{List, [], _∷_, _++_}
 use mathlib.Core.Option.{Option, some, none}
 use Prim.Native.Nat.{ℕ, zero, suc, _-_, _≤_}
@@ -15,13 +14,13 @@ pub record Row : Type 0 where
   pub value : ℕ
 
 -- the row that bytes begin with, where a row is w bytes
-unfoldable pub rowOf : ℕ → List ℕ → Row
-rowOf w t = record { key = num (take 32 t); value = num (take (w - 32) (drop 32 t)) }
+unfoldable pub rowIn : ℕ → List ℕ → Row
+rowIn w t = record { key = num (take 32 t); value = num (take (w - 32) (drop 32 t)) }
 
 -- the first n rows of bytes
 unfoldable pub rows : ℕ → ℕ → List ℕ → List Row
 rows w zero t = []
-rows w (suc n) t = rowOf w t ∷ rows w n (drop w t)
+rows w (suc n) t = rowIn w t ∷ rows w n (drop w t)
 
 -- the bytes of rows
 unfoldable pub bytesOf : ℕ → List Row → List ℕ
@@ -52,8 +51,3 @@ insert x (r ∷ rs) = byOrder (orderOf (r .key) (x .key)) (r ∷ insert x rs) (x
 unfoldable pub lookup : ℕ → List Row → Option ℕ
 lookup k [] = none
 lookup k (r ∷ rs) = byOrder (orderOf (r .key) k) (lookup k rs) (some (r .value)) none
-
--- whether there is a value
-unfoldable pub isSome : Option ℕ → Bool
-isSome none = false
-isSome (some v) = true

@@ -6,9 +6,9 @@ use mathlib.Core.Option.{some, none}
 use Prim.Native.Nat.{ℕ, suc, _+_, _≤_, _<_}
 use native.Mathlib.Omega.{arith}
 use lib.ListN.{length}
-use Rattle.words.specs.Choice.{bit}
+use Rattle.words.specs.Choice.{bit, isSome}
 use Rattle.tables.specs.OrderLaws.{order-less, order-equal, order-greater, Tri, tri, below, same, above}
-use Rattle.tables.specs.Rows.{Row, Rising, insert, lookup, isSome}
+use Rattle.tables.specs.Rows.{Row, Rising, insert, lookup}
 
 -- the value put in is found at its key
 pub lookup-insert-same : (x : Row) (rs : List Row) → lookup (x .key) (insert x rs) ≡ some (x .value)
@@ -58,7 +58,7 @@ rising-insert lo x (r ∷ rs) h s = go (rising-insert (suc (r .key)) x rs) (tri 
 
 -- there is one row more exactly when the key is new
 pub length-insert : (x : Row) (rs : List Row) → length (insert x rs) ≡ length rs + bit (not (isSome (lookup (x .key) rs)))
-unfolding insert lookup isSome
+unfolding insert lookup
 length-insert x [] = refl
 length-insert x (r ∷ rs) = go (length-insert x rs) (tri (r .key) (x .key))
   where

@@ -2,39 +2,39 @@
 use mathlib.Core.Path.{_≡_, refl}
 use mathlib.Core.List.{List, [], _∷_, _++_}
 use mathlib.Core.Option.{some, none}
-use Prim.Native.Nat.{ℕ, zero, suc, _+_, _≤_, _<_}
+use Prim.Native.Nat.{ℕ, zero, suc, _≤_, _<_}
 use native.Mathlib.Omega.{arith}
 use lib.ListN.{length, take, drop, getD}
 use Rattle.tables.specs.OrderLaws.{order-less, order-equal, order-greater, Tri, tri, below, same, above}
 use Rattle.tables.specs.Rows.{Row, Rising, onward, find, insert, lookup}
-use Rattle.tables.specs.Walks.{at}
+use Rattle.tables.specs.Walks.{keyOfRow}
 use Rattle.tables.specs.declared.rows.Found.{Found}
 use Rattle.tables.specs.declared.rows.Found.the-variants.{At, Missing}
 
-pub rising-from : (lo : ℕ) (rs : List Row) (q : ℕ) → Rising lo rs → q < length rs → lo ≤ at rs q
-unfolding at
+pub rising-from : (lo : ℕ) (rs : List Row) (q : ℕ) → Rising lo rs → q < length rs → lo ≤ keyOfRow rs q
+unfolding keyOfRow
 rising-from lo [] q s h = absurd (omega arith)
 rising-from lo (r ∷ rs) zero s h = s .0
-rising-from lo (r ∷ rs) (suc q) s h = let l : suc (r .key) ≤ at rs q = rising-from (suc (r .key)) rs q (s .1) (omega arith) in omega arith
+rising-from lo (r ∷ rs) (suc q) s h = let l : suc (r .key) ≤ keyOfRow rs q = rising-from (suc (r .key)) rs q (s .1) (omega arith) in omega arith
 
-pub rising-at : (lo : ℕ) (rs : List Row) (p q : ℕ) → Rising lo rs → p < q → q < length rs → at rs p < at rs q
-unfolding at
+pub rising-at : (lo : ℕ) (rs : List Row) (p q : ℕ) → Rising lo rs → p < q → q < length rs → keyOfRow rs p < keyOfRow rs q
+unfolding keyOfRow
 rising-at lo [] p q s h k = absurd (omega arith)
 rising-at lo (r ∷ rs) p zero s h k = absurd (omega arith)
 rising-at lo (r ∷ rs) zero (suc q) s h k = rising-from (suc (r .key)) rs q (s .1) (omega arith)
 rising-at lo (r ∷ rs) (suc p) (suc q) s h k = rising-at (suc (r .key)) rs p q (s .1) (omega arith) (omega arith)
 
-pub find-at : (k : ℕ) (rs : List Row) (i : ℕ) → i < length rs → ((p : ℕ) → p < i → at rs p < k) → at rs i ≡ k → find k rs ≡ At i
-unfolding find onward at
+pub find-at : (k : ℕ) (rs : List Row) (i : ℕ) → i < length rs → ((p : ℕ) → p < i → keyOfRow rs p < k) → keyOfRow rs i ≡ k → find k rs ≡ At i
+unfolding find onward keyOfRow
 find-at k [] i h lt e = absurd (omega arith)
 find-at k (r ∷ rs) zero h lt e = rw (order-equal (r .key) k e)
 find-at k (r ∷ rs) (suc i) h lt e =
     let ih : find k rs ≡ At i = find-at k rs i (omega arith) (λ p l. lt (suc p) (omega arith)) e in
     rw (order-less (r .key) k (lt 0 (omega arith)), ih)
 
-pub find-missing : (k : ℕ) (rs : List Row) (i : ℕ) → i ≤ length rs → ((p : ℕ) → p < i → at rs p < k) → ((p : ℕ) → i ≤ p → p < length rs → k < at rs p)
+pub find-missing : (k : ℕ) (rs : List Row) (i : ℕ) → i ≤ length rs → ((p : ℕ) → p < i → keyOfRow rs p < k) → ((p : ℕ) → i ≤ p → p < length rs → k < keyOfRow rs p)
     → find k rs ≡ Missing i
-unfolding find onward at
+unfolding find onward keyOfRow
 find-missing k [] zero h lt gt = refl
 find-missing k [] (suc i) h lt gt = absurd (omega arith)
 find-missing k (r ∷ rs) zero h lt gt = rw (order-greater (r .key) k (gt 0 (omega arith) (omega arith)))

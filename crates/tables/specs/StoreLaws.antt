@@ -8,7 +8,7 @@ use native.Mathlib.Nat.{suc-mul, add-mul}
 use lib.ListN.{length, take, drop, length-drop, length-append, take-append-drop}
 use lib.Seq.{paste, drop-drop, take-append-le, take-take, take-all, drop-at, take-at, length-take-le, drop-paste, length-paste}
 use borrow.Author.Tests.{le-leb, lt-leb}
-use Rattle.tables.specs.Rows.{Row, rowOf, rows, find, insert, isSome}
+use Rattle.tables.specs.Rows.{Row, rowIn, rows, find, insert}
 use Rattle.tables.specs.Table.{Table, Inserted, storedOf}
 use Rattle.tables.specs.SortedLaws.{insert-at, insert-missing}
 use Rattle.tables.specs.RowsTheorems.{length-insert}
@@ -41,7 +41,7 @@ rows-cut w n k t h l j =
 
 -- t with a row pasted in at row i
 row-pasted : (w i m : ℕ) (t row : List ℕ) → 32 ≤ w → length row ≡ w → i * w + w ≤ length t
-    → rows w (i + suc m) (paste t (i * w) row w) ≡ rows w i t ++ rowOf w row ∷ rows w m (drop (i * w + w) t)
+    → rows w (i + suc m) (paste t (i * w) row w) ≡ rows w i t ++ rowIn w row ∷ rows w m (drop (i * w + w) t)
 row-pasted w i m t row h e l =
     let a : take w row ≡ row = take-all w row (omega arith) in
     let b : length (take (i * w) t) ≡ i * w = length-take-le (i * w) t (omega arith) in
@@ -49,7 +49,7 @@ row-pasted w i m t row h e l =
     ap (λ (r : List ℕ). rows w (i + suc m) (take (i * w) t ++ r ++ drop (i * w + w) t)) a
     ∙ ap (rows w (i + suc m)) (append-assoc (take (i * w) t) row (drop (i * w + w) t))
     ∙ rows-spliced w i m (take (i * w) t) row (drop (i * w + w) t) h b e
-    ∙ ap (λ (r : List Row). r ++ rowOf w row ∷ rows w m (drop (i * w + w) t)) c
+    ∙ ap (λ (r : List Row). r ++ rowIn w row ∷ rows w m (drop (i * w + w) t)) c
 
 -- before and behind a paste
 take-paste-le : (b at k : ℕ) (t s : List ℕ) → b ≤ at → at ≤ length t → take b (paste t at s k) ≡ take b t
@@ -76,14 +76,14 @@ rows-moved w m at k t s h e l g =
 
 module _ (w n i : ℕ) (t row : List ℕ) (tb : Table w n t) (lw : length row ≡ w) where
   abbrev x : Row
-  x = rowOf w row
+  x = rowIn w row
 
   abbrev rs : List Row
   rs = rows w n t
 
   -- a row put over the one that has its key
   pub put-at : find (x .key) rs ≡ At i → (u : List ℕ) → u ≡ paste t (i * w) row w → Inserted w n x t u (Count n)
-  unfolding storedOf isSome
+  unfolding storedOf
   put-at h u p =
       let (l, v, e) = insert-at x rs i x h in
       let c : length rs ≡ n = rows-length w n t in
@@ -105,7 +105,6 @@ module _ (w n i : ℕ) (t row : List ℕ) (tb : Table w n t) (lw : length row �
     place = omega (arith, insert-missing x rs i h .0, rows-length w n t)
 
     size : length (insert x rs) ≡ n + 1
-    unfolding isSome
     size = length-insert x rs ∙ rw (insert-missing x rs i h .1) (omega (arith, rows-length w n t))
 
     next : (n + 1) * w ≡ n * w + w

@@ -10,9 +10,9 @@ use lib.Seq.{drop-drop, getD-drop}
 use lib.Dec.{leb}
 use borrow.Author.Tests.{leb-true}
 use Rattle.words.specs.Bytes.{beBytes, Bytes}
-use Rattle.words.specs.Choice.{pick}
+use Rattle.words.specs.Choice.{pick, isSome}
 use Rattle.words.specs.BytesTheorems.{write-back}
-use Rattle.tables.specs.Rows.{Row, rowOf, rows, bytesOf, insert, lookup, isSome}
+use Rattle.tables.specs.Rows.{Row, rowIn, rows, bytesOf, insert, lookup}
 use Rattle.tables.specs.Table.{Table, After, storedOf, Inserted}
 use Rattle.tables.specs.LayoutLaws.{rows-length}
 use Rattle.tables.specs.StoreLaws.{drop-beyond}
@@ -22,8 +22,8 @@ use Rattle.tables.specs.declared.store.Stored.{Stored}
 use Rattle.tables.specs.declared.store.Stored.the-variants.{Count, NoRoom}
 
 -- a row's bytes are those of its key and of its value
-row-bytes : (w : ℕ) (t : List ℕ) → Bytes t → 32 ≤ w → w ≤ length t → beBytes 32 (rowOf w t .key) ++ (beBytes (w - 32) (rowOf w t .value) ++ drop w t) ≡ t
-unfolding rowOf
+row-bytes : (w : ℕ) (t : List ℕ) → Bytes t → 32 ≤ w → w ≤ length t → beBytes 32 (rowIn w t .key) ++ (beBytes (w - 32) (rowIn w t .value) ++ drop w t) ≡ t
+unfolding rowIn
 row-bytes w t b h l =
     let k = write-back 32 t (omega arith) b in
     let v = write-back (w - 32) (drop 32 t) (omega (arith, length-drop 32 t)) (λ i. rw getD-drop (b (32 + i))) in
@@ -39,8 +39,8 @@ held-bytes w (suc n) t b h l =
     let s : w + n * w ≡ suc n * w = omega (arith, suc-mul n w) in
     let ih = held-bytes w n (drop w t) (λ i. rw getD-drop (b (w + i))) h (omega (arith, length-drop w t)) in
     let j : drop (suc n * w) t ≡ drop (n * w) (drop w t) = sym (drop-drop (n * w) w t ∙ ap (λ (a : ℕ). drop a t) s) in
-    let k : List ℕ = beBytes 32 (rowOf w t .key) in
-    let v : List ℕ = beBytes (w - 32) (rowOf w t .value) in
+    let k : List ℕ = beBytes 32 (rowIn w t .key) in
+    let v : List ℕ = beBytes (w - 32) (rowIn w t .value) in
     let rest : List ℕ = bytesOf w (rows w n (drop w t)) in
     append-assoc k (v ++ rest) (drop (suc n * w) t)
     ∙ ap (λ (a : List ℕ). k ++ a) (append-assoc v rest (drop (suc n * w) t) ∙ (λ i. v ++ (rest ++ j i)) ∙ ap (λ (a : List ℕ). v ++ a) ih)

@@ -13,17 +13,17 @@ pub record Agree (a b : List ℕ) (i : ℕ) : Type 0 where
   pub right : num b ≡ numFrom front (drop i b)
 
 -- the key of row i
-unfoldable pub at : List Row → ℕ → ℕ
-at rs i = getD rs i (record { key = 0; value = 0 }) .key
+unfoldable pub keyOfRow : List Row → ℕ → ℕ
+keyOfRow rs i = getD rs i (record { key = 0; value = 0 }) .key
 
 -- each of the first i keys is below the next
 abbrev pub Adjacent : List Row → ℕ → Type 0
-Adjacent rs i = (p : ℕ) → suc p < i → at rs p < at rs (suc p)
+Adjacent rs i = (p : ℕ) → suc p < i → keyOfRow rs p < keyOfRow rs (suc p)
 
 -- all before lo are below k, and all from hi on above
 pub record Bracket (rs : List Row) (k n lo hi : ℕ) : Type 0 where
   pub size : length rs ≡ n
   pub lo-le : lo ≤ hi
   pub hi-le : hi ≤ n
-  pub under : (p : ℕ) → p < lo → at rs p < k
-  pub over : (p : ℕ) → hi ≤ p → p < n → k < at rs p
+  pub under : (p : ℕ) → p < lo → keyOfRow rs p < k
+  pub over : (p : ℕ) → hi ≤ p → p < n → k < keyOfRow rs p

@@ -2,9 +2,10 @@
 ghost use mathlib.Core.Path.{_≡_};
 ghost use Prim.Native.Nat.{_*_};
 ghost use lib.ListN.{length};
+ghost use Rattle.words.specs.Choice.{isSome};
 ghost use Rattle.words.specs.Bytes.{num};
 ghost use Rattle.tables.specs.Rows;
-ghost use Rattle.tables.specs.Rows.{rows, lookup, isSome};
+ghost use Rattle.tables.specs.Rows.{rows, lookup};
 ghost use Rattle.tables.specs.Table.{Table};
 ghost use Rattle.tables.specs.Answers.{gotOf};
 use crate::order::Order;

@@ -4,7 +4,7 @@ ghost use Prim.Native.Nat.{_+_, _-_, _≤_};
 ghost use lib.ListN.{length, drop};
 ghost use lib.Seq.{paste};
 ghost use Rattle.words.specs.Bytes.{num};
-ghost use Rattle.tables.specs.Rows.{rowOf};
+ghost use Rattle.tables.specs.Rows.{rowIn};
 ghost use Rattle.tables.specs.Table.{Table, Inserted};
 use crate::rows::Found;
 
@@ -29,7 +29,7 @@ fn shift_up(t: &mut [u8], from: usize, to: usize, by: usize)
 // Puts a row into the first n rows of its width.
 pub fn insert(t: &mut [u8], n: usize, row: &[u8]) -> Stored
     requires { ⌜ Table (length (now row)) n (now t) ⌝ }
-    ensures { λ r. ⌜ Inserted (length (now (row .entry))) n (rowOf (length (now (row .entry))) (now (row .entry))) (now (t .entry)) (now (t .exit)) r ⌝ }
+    ensures { λ r. ⌜ Inserted (length (now (row .entry))) n (rowIn (length (now (row .entry))) (now (row .entry))) (now (t .entry)) (now (t .exit)) r ⌝ }
 {
     let w = row.len();
     let f = crate::rows::find(t, n, w, &row[..32]);

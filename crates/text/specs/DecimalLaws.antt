@@ -20,9 +20,9 @@ length-digits zero n = refl
 length-digits (suc w) n = length-append (lastDigits w (n / 10)) ((48 + n % 10) ∷ []) ∙ ap (λ (k : ℕ). k + 1) (length-digits w (n / 10)) ∙ add-one w
 
 -- a turn of the count: one digit more is known, and one less is left to count
-pub count-turn : (l n : ℕ) → 10 ≤ n → digitCount (suc l) n ≡ suc (digitCount l (n / 10))
+pub digits-turn : (l n : ℕ) → 10 ≤ n → digitCount (suc l) n ≡ suc (digitCount l (n / 10))
 unfolding digitCount
-count-turn l n h = rw (le-ltb n 10 h)
+digits-turn l n h = rw (le-ltb n 10 h)
 
 pub count-end : (l n : ℕ) → n < 10 → digitCount (suc l) n ≡ 1
 unfolding digitCount
@@ -49,26 +49,26 @@ unfolding lastDigits
 put-end d at i x e = ap (λ (k : ℕ). paste d at (lastDigits k x) k) e ∙ sym (paste-zero d at [])
 
 -- k digits are counted, and those of x are to come but for one
-pub record Counted (n x k : ℕ) : Type 0 where
+pub record DigitsCounted (n x k : ℕ) : Type 0 where
   pub left : ℕ
   pub sum : k + left ≡ 20
   pub is : k + digitCount (suc left) x ≡ 1 + digitCount 20 n
   pub small : x < 10 ^ suc left
 
-pub counted-start : (n : ℕ) → n < 2 ^ 64 → Counted n n 1
+pub counted-start : (n : ℕ) → n < 2 ^ 64 → DigitsCounted n n 1
 counted-start n h = record { left = 19; sum = refl; is = refl; small = omega (arith, h) }
 
-pub counted-turn : (n x k : ℕ) → 10 ≤ x → Counted n x k → Counted n (x / 10) (k + 1)
+pub counted-turn : (n x k : ℕ) → 10 ≤ x → DigitsCounted n x k → DigitsCounted n (x / 10) (k + 1)
 counted-turn n x k h c = by (c .left) (c .sum) (c .is) (c .small)
   where
-    by : (l : ℕ) → k + l ≡ 20 → k + digitCount (suc l) x ≡ 1 + digitCount 20 n → x < 10 ^ suc l → Counted n (x / 10) (k + 1)
+    by : (l : ℕ) → k + l ≡ 20 → k + digitCount (suc l) x ≡ 1 + digitCount 20 n → x < 10 ^ suc l → DigitsCounted n (x / 10) (k + 1)
     by zero e i p = absurd (omega (arith, p, h))
     by (suc l) e i p = record {
       left = l;
       sum = omega (arith, e);
-      is = omega (arith, i, count-turn (suc l) x h);
+      is = omega (arith, i, digits-turn (suc l) x h);
       small = div-lt-iff-lt-mul {k = 10} {x = x} {y = 10 ^ suc l} (omega arith) .1 (rw pow-suc at p);
     }
 
-pub counted-end : (n x k : ℕ) → x < 10 → Counted n x k → k ≡ digitCount 20 n
+pub counted-end : (n x k : ℕ) → x < 10 → DigitsCounted n x k → k ≡ digitCount 20 n
 counted-end n x k h c = omega (arith, c .is, count-end (c .left) x h)

@@ -1,9 +1,12 @@
+-- definitions
 pub mod Ascii
 pub mod Decimal
+pub mod Hex
+pub mod Number
+-- laws
 pub mod DecimalLaws
 pub mod LaidLaws
-pub mod Hex
 pub mod HexLaws
-pub mod Number
 pub mod NumberLaws
+-- theorems
 pub mod CaseTheorems

@@ -7,8 +7,8 @@ use native.Mathlib.Numerals.{add-one}
 use lib.ListN.{length, drop, getD, drop-of-length-le}
 use lib.Seq.{drop-cons}
 use Rattle.text.specs.Number.{withDigit, parsedFrom, parsedOf}
-use Rattle.text.specs.declared.number.Parsed.{Parsed}
-use Rattle.text.specs.declared.number.Parsed.the-variants.{Number, Bad}
+use Rattle.text.specs.declared.number.ParsedNumber.{ParsedNumber}
+use Rattle.text.specs.declared.number.ParsedNumber.the-variants.{Number, Bad}
 
 pub parsed-none : (s : List ℕ) → length s ≡ 0 → Bad ≡ parsedOf s
 unfolding parsedOf
@@ -21,7 +21,7 @@ parsed-start [] h = absurd (omega arith)
 parsed-start (x ∷ s) h = refl
 
 -- a turn: the digit at i decides
-pub parsed-turn : (s : List ℕ) (n i : ℕ) (p : Parsed) → i < length s → p ≡ withDigit n (getD s i 0) →
+pub parsed-turn : (s : List ℕ) (n i : ℕ) (p : ParsedNumber) → i < length s → p ≡ withDigit n (getD s i 0) →
     parsedOf s ≡ parsedFrom (Number n) (drop i s) → parsedOf s ≡ parsedFrom p (drop (i + 1) s)
 unfolding parsedFrom
 parsed-turn s n i p h q e = rw (q, add-one) (e ∙ ap (parsedFrom (Number n)) (drop-cons s i 0 h))

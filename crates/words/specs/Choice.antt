@@ -1,5 +1,6 @@
 -- A choice by a test, and the few words on tests that the rules use.
 use mathlib.Core.Bool.{Bool, true, false}
+use mathlib.Core.Option.{Option, some, none}
 use Prim.Native.Nat.{ℕ}
 
 -- the first where the test holds, else the second
@@ -16,3 +17,8 @@ either a b = pick a true b
 -- 1 for yes, 0 for no
 abbrev pub bit : Bool → ℕ
 bit a = pick a 1 0
+
+-- whether there is one
+abbrev pub isSome : {A : Type 0} → Option A → Bool
+isSome none = false
+isSome (some a) = true

@@ -10,23 +10,23 @@ use Rattle.tables.specs.Rows.{rows}
 use Rattle.tables.specs.Checked.{checkedOf}
 use Rattle.tables.specs.CheckTheorems.{whole-table, table-if}
 use Rattle.tables.specs.declared.check.Checked.the-variants.{Whole}
-use Rattle.changes.specs.ChangeList.{Lent, lent, storedOf, listOf}
-use Rattle.changes.specs.AnswerLaws.{Loader, loader-rows, loader-bad, no-changes, no-store, no-loader, listed}
+use Rattle.changes.specs.ChangeList.{ChangesLent, lent, countedRows, listOf}
+use Rattle.changes.specs.AnswerLaws.{LoaderRows, loader-rows, loader-bad, no-changes, no-store, no-loader, listed}
 use Rattle.changes.specs.AnswerLaws.{ends-bad, ends-as, stored-past, stored-by}
 use Rattle.changes.proofs.change_list.Statement.{statement}
 use Rattle.changes.proofs.change_list.Tie as tie
 
 -- what is lent
-abbrev given : tie.Start → Lent
+abbrev given : tie.Start → ChangesLent
 given start =
     let a = start .args in
-    lent (a .changes .now) (a .count) (a .store .now) (a .present) (a .loader .now)
+    lent (a .changes .now) (a .count) (a .store .now) (a .has-loader) (a .loader .now)
 
 -- past both tests the counted rows stand and rise
-abbrev lentAt : tie.Else2 → Lent
+abbrev lentAt : tie.Else2 → ChangesLent
 lentAt risen = given (risen .before .before .before .before .before .before .before)
 
-stood : (risen : tie.Else2) → let l = lentAt risen in storedOf (l .changes) (l .count) ≡ some (rows 40 (l .count) (l .changes))
+stood : (risen : tie.Else2) → let l = lentAt risen in countedRows (l .changes) (l .count) ≡ some (rows 40 (l .count) (l .changes))
 stood risen =
     let l = lentAt risen in
     let rises = sym (not-false _ (risen .if2 .left)) ∙ risen .before .rising .ensures in
@@ -49,7 +49,7 @@ whole both = both .before .before .before .before
 abbrev nl : tie.After-known-told2 → ℕ
 nl both = both .before .l .given .0 .0
 
-loader-whole : (both : tie.After-known-told2) → let l = lentAt (risen (whole both)) in Loader (l .present) (l .loader) (nl both)
+loader-whole : (both : tie.After-known-told2) → let l = lentAt (risen (whole both)) in LoaderRows (l .«has_loader») (l .loader) (nl both)
 loader-whole both = sym (both .before .before .before .check-if .ensures) ∙ both .before .l .given .1
 
 returns : tie.Need-returns
@@ -70,7 +70,7 @@ list-requires c κs =
     let store = whole both in
     let l = lentAt (risen store) in (
       whole-table 40 (l .store) (omega arith) (ns store) (store-whole store),
-      table-if 40 (l .loader) (omega arith) (l .present) (nl both) (loader-whole both),
+      table-if 40 (l .loader) (omega arith) (l .«has_loader») (nl both) (loader-whole both),
       omega (arith, risen store .before .before .if1 .left),
     )
 
@@ -84,7 +84,7 @@ returns-4 : tie.Need-returns-4
 returns-4 c =
     let store = c .before .before .before in
     let l = lentAt (risen store) in
-    let bad = loader-bad (l .present) (l .loader) (sym (c .before .before .check-if .ensures) ∙ c .enum-told2 .given .1) in
+    let bad = loader-bad (l .«has_loader») (l .loader) (sym (c .before .before .check-if .ensures) ∙ c .enum-told2 .given .1) in
     ends-bad (listOf l) _ (no-loader l _ (stood (risen store)) (ns store) (store-whole store) bad)
 
 returns-5 : tie.Need-returns-5
@@ -93,7 +93,7 @@ returns-5 c =
     let both = done .before .before in
     let store = whole both in
     let l = lentAt (risen store) in
-    let rows-of-loader = loader-rows (l .present) (l .loader) (nl both) (loader-whole both) in
+    let rows-of-loader = loader-rows (l .«has_loader») (l .loader) (nl both) (loader-whole both) in
     ends-as (listOf l) _ _ _ _ (listed l _ (stood (risen store)) (ns store) (store-whole store) _ rows-of-loader) (done .list .ensures)
 
 pub change-list-spec : {M : Type 1} → statement M

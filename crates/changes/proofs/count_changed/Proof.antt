@@ -6,9 +6,9 @@ use Prim.Native.Nat.{_+_, _≤_, _-_}
 use native.Mathlib.Omega.{arith}
 use lib.ListN.{length}
 use Rattle.words.specs.Choice.{pick}
-use Rattle.tables.specs.Rows.{Row, rowOf, rows}
+use Rattle.tables.specs.Rows.{Row, rowIn, rows}
 use Rattle.changes.specs.Changed.{changedIn}
-use Rattle.changes.specs.LeftLaws.{part, part-length, left, left-all, left-none, left-by}
+use Rattle.changes.specs.LeftLaws.{rowPart, part-length, left, left-all, left-none, left-by}
 use Rattle.changes.proofs.count_changed.Statement.{statement}
 use Rattle.changes.proofs.count_changed.Tie as tie
 
@@ -47,7 +47,7 @@ left-after : (asked : tie.After-unchanged Inv-loop μ-loop) (b : Bool) → b ≡
     let s = start turn in
     let t = s .args .changes .now in
     let rest = left (ss s) (ls s) t (s .args .n) (turn .loop .i + 1) in
-    left (ss s) (ls s) t (s .args .n) (turn .loop .i) ≡ pick b rest (rowOf 40 (part t (turn .loop .i)) ∷ rest)
+    left (ss s) (ls s) t (s .args .n) (turn .loop .i) ≡ pick b rest (rowIn 40 (rowPart t (turn .loop .i)) ∷ rest)
 left-after asked b e =
     let test = asked .before .before in
     let turn = test .before in

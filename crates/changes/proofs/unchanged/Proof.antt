@@ -5,7 +5,7 @@ use lib.Dec.{eqb}
 use lib.ListN.{length, take}
 use lib.Seq.{length-take-le}
 use borrow.Author.Needs.{needs}
-use Rattle.tables.specs.Rows.{rowOf}
+use Rattle.tables.specs.Rows.{rowIn}
 use Rattle.changes.proofs.unchanged.Statement.{statement}
 use Rattle.changes.proofs.unchanged.Tie as tie
 
@@ -20,7 +20,7 @@ start-requires : tie.Need-start-requires
 start-requires c κs = (search needs, search needs, key-size (c .before .before .before .before))
 
 returns : tie.Need-returns
-unfolding rowOf
+unfolding rowIn
 returns c = λ i. eqb (c .read .ensures i) (c .before .start .ensures i)
 
 pub unchanged-spec : {M : Type 1} → statement M

@@ -4,7 +4,7 @@ use Prim.Native.Nat.{_+_, _-_, _≤_}
 use native.Mathlib.Omega.{arith}
 use lib.ListN.{length}
 use Rattle.tables.specs.Rows.{rows}
-use Rattle.changes.specs.LeftLaws.{part, part-length}
+use Rattle.changes.specs.LeftLaws.{rowPart, part-length}
 use Rattle.changes.specs.WriteLaws.{Writing, writing-start, writing-same, room-new, writing-new, writing-end}
 use Rattle.changes.proofs.write_changed.Statement.{statement}
 use Rattle.changes.proofs.write_changed.Tie as tie
@@ -19,7 +19,7 @@ abbrev start : tie.At-loop Inv-loop μ-loop → tie.Start Inv-loop μ-loop
 start turn = turn .before .before .before .before .before
 
 -- row i lies within
-size : (test : tie.In-loop Inv-loop μ-loop) → length (part (start (test .before) .args .changes .now) (test .before .loop .i)) ≡ 40
+size : (test : tie.In-loop Inv-loop μ-loop) → length (rowPart (start (test .before) .args .changes .now) (test .before .loop .i)) ≡ 40
 size test =
     let s = start (test .before) in
     part-length (s .args .changes .now) (s .args .n) (test .before .loop .i) (test .loop-test .taken) (s .pre .2)
@@ -30,10 +30,10 @@ room new =
     let test = new .before .before .before in
     let turn = test .before in
     let differs = sym (new .if1 .left) ∙ new .before .unchanged .ensures in
-    omega (arith, room-new _ _ _ _ _ _ _ _ (turn .loop .inv) (test .loop-test .taken) (start turn .pre .2) differs)
+    omega (arith, room-new (turn .loop .inv) (test .loop-test .taken) (start turn .pre .2) differs)
 
 loop-holds : tie.Need-loop-holds Inv-loop μ-loop
-loop-holds c = writing-start _ _ _ _ _ (c .before .before .before .before .pre .3)
+loop-holds c = writing-start (c .before .before .before .before .pre .3)
 
 unchanged-requires : tie.Need-unchanged-requires Inv-loop μ-loop
 unchanged-requires c κs = let s = start (c .before .before) in (s .pre .0, s .pre .1, size (c .before))
@@ -43,7 +43,7 @@ loop-again c =
     let test = c .before .before .before in
     let turn = test .before in
     let same = sym (c .if1 .taken) ∙ c .before .unchanged .ensures in
-    writing-same _ _ _ _ _ _ _ _ (turn .loop .inv) (test .loop-test .taken) (start turn .pre .2) same
+    writing-same (turn .loop .inv) (test .loop-test .taken) (start turn .pre .2) same
 
 copy-in-requires : tie.Need-copy-in-requires Inv-loop μ-loop
 copy-in-requires c κs = let new = c .before .before in omega (arith, room new, size (new .before .before .before))
@@ -55,11 +55,11 @@ loop-again-2 c =
     let test = new .before .before .before in
     let turn = test .before in
     let differs = sym (new .if1 .left) ∙ new .before .unchanged .ensures in
-    writing-new _ _ _ _ _ _ _ _ (turn .loop .inv) (test .loop-test .taken) (start turn .pre .2) differs
+    writing-new (turn .loop .inv) (test .loop-test .taken) (start turn .pre .2) differs
     (λ j. turn .before .before .before .before .shared-slice-known .given j .fits) _ (copied .copy-in .ensures)
 
 returns : tie.Need-returns Inv-loop μ-loop
-returns c = writing-end _ _ _ _ _ _ _ _ (c .before .loop .inv) (c .loop-test .left)
+returns c = writing-end (c .before .loop .inv) (c .loop-test .left)
 
 pub write-changed-spec : {M : Type 1} → statement M
 write-changed-spec =

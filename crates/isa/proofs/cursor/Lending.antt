@@ -25,7 +25,7 @@ use denote.Steps.{nothing}
 use denote.Struct.Declared.{Declared}
 use denote.Struct.Laws as LL
 use denote.Struct.Steps.{spelt}
-use Rattle.isa.specs.declared.codec.Read.{Read}
+use Rattle.isa.specs.declared.codec.ReadAt.{ReadAt}
 use Rattle.isa.specs.declared.cursor.Cursor.{Cursor}
 use Rattle.isa.proofs.cursor.Cursor as T
 use Rattle.isa.proofs.cursor.Cursor.Laws as T′
@@ -65,10 +65,11 @@ module _ (κ : Lft) (q : Share) (l : ℕ) where
     Kept t = sep 𝓤 (A .lent (t .0 ∷ κ) (Body (mem (B κ)) l 0 (t .1))) (Owed (t .0))
 
     -- what a read is passed
-    abbrev pub passed : (rule : List ℕ → ℕ → Read) → Loan → Cursor → Lent rule 𝓤 H A .Ghost
-    passed rule t c = (((t .0 ∷ κ, (κ, tt)), (PosShare·left q, (PosShare·right q, tt)), (meet-⊑-right (t .0 ∷ []) κ, tt), (lentAt t c, tt), (vptr l 0 ∷ [], tt)), tt)
+    abbrev pub passed : (rule : List ℕ → ℕ → ReadAt) → Loan → Cursor → Lent rule 𝓤 H A .Ghost
+    passed rule t c =
+        (((t .0 ∷ κ, (κ, tt)), (PosShare·left q, (PosShare·right q, tt)), (meet-⊑-right (t .0 ∷ []) κ, tt), (lentAt t c, tt), (vptr l 0 ∷ [], tt)), tt)
 
-    abbrev Asks : (rule : List ℕ → ℕ → Read) → Loan → Cursor → SProp 𝓤
+    abbrev Asks : (rule : List ℕ → ℕ → ReadAt) → Loan → Cursor → SProp 𝓤
     Asks rule t c = Lent rule 𝓤 H A .pre (passed rule t c)
 
     module _ (W : Given 𝓤 H A) where
@@ -85,12 +86,13 @@ module _ (κ : Lft) (q : Share) (l : ℕ) where
           spelt ! (B κ) (Is (B κ)) (shows 𝓤 H A (B κ)) (LL.vals (D κ) (T′.the-laws (ℓ κ))) (LL.tells (D κ) (T′.the-laws (ℓ κ))) fullShare c vs l 0 $
           use1 W (‵ (Cell l c)) (W .laws .raw-at fullShare (T′.mir erased) l 0 (T′.lowered c)) $ frame ! $ done !)
 
-      asked : (rule : List ℕ → ℕ → Read) (t : Loan) (c : Cursor)
+      asked : (rule : List ℕ → ℕ → ReadAt) (t : Loan) (c : Cursor)
           → ent 𝓤 (sep 𝓤 (sep 𝓤 (A .lft (t .0 ∷ κ) (PosShare·left q)) (sep 𝓤 (A .lft κ (PosShare·right q)) (emp 𝓤))) (sem 𝓤 H A (owns (MutRef (named 0) (t .0 ∷ κ) (B κ) ∷ []) (lentAt t c, tt) (vptr l 0 ∷ [], tt)))) (Asks rule t c)
       asked rule t c =
           qed W ((‵ (flft (t .0 ∷ κ) (PosShare·left q)) ⊛ ‵ (flft κ (PosShare·right q)) ⊛ ‵ ftrue) ∷ ‵ (owns (MutRef (named 0) (t .0 ∷ κ) (B κ) ∷ []) (lentAt t c, tt) (vptr l 0 ∷ [], tt)) ∷ []) ∵ join ! $ frame ! $ done !
 
-      pub lend : (rule : List ℕ → ℕ → Read) (c : Cursor) → ent 𝓤 (sep 𝓤 (sem 𝓤 H A (Cell l c)) (sep 𝓤 (sem 𝓤 H A (Owns κ c)) (A .lft κ q))) (H .⇛ (ex 𝓤 (λ (t : Loan). sep 𝓤 (Asks rule t c) (Kept t))))
+      pub lend : (rule : List ℕ → ℕ → ReadAt) (c : Cursor) →
+          ent 𝓤 (sep 𝓤 (sem 𝓤 H A (Cell l c)) (sep 𝓤 (sem 𝓤 H A (Owns κ c)) (A .lft κ q))) (H .⇛ (ex 𝓤 (λ (t : Loan). sep 𝓤 (Asks rule t c) (Kept t))))
       lend rule c =
           qed W (‵ (Cell l c) ∷ ‵ (Owns κ c) ∷ ‵ (flft κ q) ∷ []) ∵ updating ! $ use2 W (‵ (partAt (B κ) fullShare c l 0)) (to-memory c) $
           move ! (1 ∷ []) $ use1 W (‵ (flft κ (PosShare·left q)) ⊛ ‵ (flft κ (PosShare·right q))) (W .lfts .lft-split κ q) $ split ! $

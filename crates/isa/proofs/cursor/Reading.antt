@@ -41,14 +41,14 @@ use denote.Triple.Clauses.{Clauses, ensured, lasts, closing}
 use denote.Triple.Entry.{Vals, onEntry}
 use denote.Triple.Spec.{Meets, tripleOf}
 use denote.Triple.Walked.{says, Stays, stay-ref, walkOf, goes-ref, Walks, ends-at, walked, walk-meets}
-use Rattle.isa.specs.Cursor.{Reading}
-use Rattle.isa.specs.declared.codec.Got.{Got}
-use Rattle.isa.specs.declared.codec.Read.{Read}
+use Rattle.isa.specs.Cursor.{CursorReads}
+use Rattle.isa.specs.declared.codec.GotByte.{GotByte}
+use Rattle.isa.specs.declared.codec.ReadAt.{ReadAt}
 use Rattle.isa.specs.declared.cursor.Cursor.{Cursor}
-use Rattle.isa.proofs.codec.Got as G
-use Rattle.isa.proofs.codec.Got.Laws as G′
-use Rattle.isa.proofs.codec.Read as S
-use Rattle.isa.proofs.codec.Read.Laws as S′
+use Rattle.isa.proofs.codec.GotByte as G
+use Rattle.isa.proofs.codec.GotByte.Laws as G′
+use Rattle.isa.proofs.codec.ReadAt as S
+use Rattle.isa.proofs.codec.ReadAt.Laws as S′
 use Rattle.isa.proofs.codec.read_byte as work
 use Rattle.isa.proofs.cursor.Cursor as T
 use Rattle.isa.proofs.cursor.Cursor.Laws as T′
@@ -81,10 +81,10 @@ body callee = record {
       (seq (assign (place 0 []) (rvOpd (copy (place 2 (field 0 ∷ []))))) return))));
 }
 
-module _ (rule : List ℕ → ℕ → Read) where
+module _ (rule : List ℕ → ℕ → ReadAt) where
   -- the contracts of a read and of its callee, over the callee's rule
   abbrev pub readClauses : {M : Type 1} (𝓤 : URA M) → Clauses 𝓤 self.ended
-  readClauses 𝓤 κs a = record { ghost = Unit {0}; requires = λ _. emp 𝓤; ensures = λ _ g e. fact 𝓤 (Reading rule (now (a .0)) (now (e .0)) g) }
+  readClauses 𝓤 κs a = record { ghost = Unit {0}; requires = λ _. emp 𝓤; ensures = λ _ g e. fact 𝓤 (CursorReads rule (now (a .0)) (now (e .0)) g) }
 
   abbrev workClauses : {M : Type 1} (𝓤 : URA M) → Clauses 𝓤 work.ended
   workClauses 𝓤 κs a = record { ghost = Unit {0}; requires = λ _. emp 𝓤; ensures = λ _ r e. fact 𝓤 (r ≡ rule (now (a .0)) (a .1 .0)) }
@@ -146,21 +146,22 @@ module _ (rule : List ℕ → ℕ → Read) where
         move ! (2 ∷ 0 ∷ []) $ use2 W (raw (Work 𝓤 H A .pre to)) asked $ frame ! $ done !)
 
     -- of the callee's `ensured`, the clause alone
-    said : (r : Read) → ent 𝓤 (ensured 𝓤 H A work.ended (workClauses 𝓤) (κ′, tt) (h .code, (h .at, tt)) tt r) (fact 𝓤 (r ≡ rule (now (h .code)) (h .at)))
+    said : (r : ReadAt) → ent 𝓤 (ensured 𝓤 H A work.ended (workClauses 𝓤) (κ′, tt) (h .code, (h .at, tt)) tt r) (fact 𝓤 (r ≡ rule (now (h .code)) (h .at)))
     said r = exE 𝓤 _ (λ ws. snd∗ 𝓤 (sem 𝓤 H A (lasts work.ended (κ′, tt) (h .code, (h .at, tt)) ws)) (fact 𝓤 (r ≡ rule (now (h .code)) (h .at))))
 
     -- the slice is kept, and the place's facts are made anew
     again : (n : ℕ) → n < 2 ^ 64 → ent 𝓤 (sem 𝓤 H A Own) (sem 𝓤 H A (Row κ′ .own (to-place n) (T′.lowered (to-place n) ∷ [])))
-    again n fits = qed W (‵ Own ∷ []) ∵ owned ! usize (Is usize) (uint-makes 𝓤 H A W w64) n _ (refl, fits) $ move ! (1 ∷ 0 ∷ []) $ by ! (own-put 𝓤 H A W D L 1 vd n mach)
+    again n fits =
+        qed W (‵ Own ∷ []) ∵ owned ! usize (Is usize) (uint-makes 𝓤 H A W w64) n _ (refl, fits) $ move ! (1 ∷ 0 ∷ []) $ by ! (own-put 𝓤 H A W D L 1 vd n mach)
 
     -- how a read is spelled, and each field's relation
-    abbrev gotv : Got → Val
+    abbrev gotv : GotByte → Val
     gotv = EL.val G.the-type G′.the-laws
 
-    fields-of : (r : Read) (v : Val) → Is S.the-row r (v ∷ []) → Is G.the-row (r .got) (gotv (r .got) ∷ []) × (r .at < 2 ^ 64)
+    fields-of : (r : ReadAt) (v : Val) → Is S.the-row r (v ∷ []) → Is G.the-row (r .got) (gotv (r .got) ∷ []) × (r .at < 2 ^ 64)
     fields-of r v is = let w = LL.owed S.the-type S′.the-laws r (v ∷ []) is in (w .0, w .1 .0 .1)
 
-    exits : (r : Read) → r ≡ rule (now (h .code)) (h .at) → Is G.the-row (r .got) (gotv (r .got) ∷ [])
+    exits : (r : ReadAt) → r ≡ rule (now (h .code)) (h .at) → Is G.the-row (r .got) (gotv (r .got) ∷ [])
         → ent 𝓤 (sep 𝓤 (A .obs γ (Row κ′ .coded .code (to-place (r .at)))) (sep 𝓤 (A .bor κ (Body (mem (Row κ′)) b o γ)) (sep 𝓤 (A .lft κ q) (sep 𝓤 (A .lft κ′ q′) (emp 𝓤))))) (Post (gotv (r .got)))
     exits r e ig =
         qed W (‵ (fobs γ (Row κ′ .coded .code (to-place (r .at)))) ∷ ‵ (fbor κ (Body (mem (Row κ′)) b o γ)) ∷ ‵ (flft κ q) ∷ (‵ (flft κ′ q′) ⊛ ‵ ftrue) ∷ []) ∵
@@ -184,7 +185,7 @@ module _ (rule : List ℕ → ℕ → Read) where
           move ! (5 ∷ 1 ∷ []) $ use2 W (raw (Work 𝓤 H A .pre to) ⊛ ‵ Own) (apart (LL.lawful D L 𝓤 H A W .typed h _ was .0 .1 .1 .0 .fits)) $ split ! $
           -- [what the callee asks; what the Cursor owns; its cell; the open borrow; obs; auth; true; _4; …]
           calls-at ! fm (Work 𝓤 H A) known to (and-then ! (load ! (from ! (stop !)) (look ! 9 refl)) (and-then ! (load ! (from ! (stop !)) (look ! 7 refl)) (no-more !))) (λ u.
-          use1 W (later (some (λ (r : Read). ((‵ (flft κ′ q′) ⊛ ‵ ftrue) ⊛ ‵ (S.the-row .own r (u ∷ []))) ⊛ raw (ensured 𝓤 H A work.ended (workClauses 𝓤) (κ′, tt) (h .code, (h .at, tt)) tt r)))) (id⊢ 𝓤 _) $ await ! tt $ pick ! (λ r.
+          use1 W (later (some (λ (r : ReadAt). ((‵ (flft κ′ q′) ⊛ ‵ ftrue) ⊛ ‵ (S.the-row .own r (u ∷ []))) ⊛ raw (ensured 𝓤 H A work.ended (workClauses 𝓤) (κ′, tt) (h .code, (h .at, tt)) tt r)))) (id⊢ 𝓤 _) $ await ! tt $ pick ! (λ r.
           split ! $ move ! (1 ∷ []) $ use1 W (raw (fact 𝓤 (r ≡ rule (now (h .code)) (h .at)))) (said r) $ heard ! (r ≡ rule (now (h .code)) (h .at)) (λ e. split ! $ move ! (1 ∷ []) $
           -- [what the read owns; 'a's token; what the Cursor owns; its cell; the open borrow; obs; auth; true; _4; …; _3; …; _2; …; _1; …; room for _0; …]
           peeks ! S.the-row (Is S.the-row) (shows 𝓤 H A S.the-row) r (u ∷ []) (λ is.
@@ -201,10 +202,14 @@ module _ (rule : List ℕ → ℕ → Read) where
           keep ! (0 ∷ 1 ∷ 2 ∷ 3 ∷ []) $ by ! (exits r e (fields-of r u is .0)))))))))))))
 
   module _ {M : Type 1} (𝓤 : URA M) (H : Heap 𝓤) (A : Atoms 𝓤) (W : Given 𝓤 H A) (callee : Name) where
-    walks : (C : Calls 𝓤 H) (Λ : Loops 𝓤 H) → FmC 𝓤 H (W .laws) C → Triple 𝓤 (C callee) (Work 𝓤 H A) → Walks 𝓤 H A self.ended stayed (WpFn 𝓤 H C Λ (body callee)) (readClauses 𝓤)
-    walks C Λ fm known = walked 𝓤 H A self.ended stayed (readClauses 𝓤) (WpFn 𝓤 H C Λ (body callee)) (λ κs. (ptr-vals, tt)) (λ κs. (mut-tells (named 0) (κs .0) (Row (κs .1 .0)), tt))
+    walks : (C : Calls 𝓤 H) (Λ : Loops 𝓤 H) → FmC 𝓤 H (W .laws) C → Triple 𝓤 (C callee) (Work 𝓤 H A) →
+        Walks 𝓤 H A self.ended stayed (WpFn 𝓤 H C Λ (body callee)) (readClauses 𝓤)
+    walks C Λ fm known =
+        walked 𝓤 H A self.ended stayed (readClauses 𝓤) (WpFn 𝓤 H C Λ (body callee)) (λ κs. (ptr-vals, tt)) (λ κs. (mut-tells (named 0) (κs .0) (Row (κs .1 .0)), tt))
         (λ κs qs bounds a _ _. via 𝓤 _ (fst∗ 𝓤 _ (emp 𝓤)) (walk 𝓤 H A W (κs .0) (κs .1 .0) (qs .0) (qs .1 .0) bounds (a .0 .ptr .0) (a .0 .ptr .1) (a .0 .name) (a .0 .now) callee C Λ fm known))
 
-    pub read-meets : (𝓣 : Tables 𝓤 H) → Triple 𝓤 (𝓣 .C callee) (Work 𝓤 H A) → Meets 𝓤 H A self.signature (WpFn 𝓤 H (𝓣 .C) (𝓣 .Λ) (body callee)) (closing 𝓤 H A self.ended (readClauses 𝓤))
-    read-meets 𝓣 known = walk-meets 𝓤 H A self.ended stayed W (goes-ref 𝓤 H A W 2 0 tt referent, tt) (readClauses 𝓤) (WpFn 𝓤 H (𝓣 .C) (𝓣 .Λ) (body callee)) (WpFn-mono 𝓤 H (W .laws) 𝓣 (body callee))
+    pub read-meets : (𝓣 : Tables 𝓤 H) → Triple 𝓤 (𝓣 .C callee) (Work 𝓤 H A) →
+        Meets 𝓤 H A self.signature (WpFn 𝓤 H (𝓣 .C) (𝓣 .Λ) (body callee)) (closing 𝓤 H A self.ended (readClauses 𝓤))
+    read-meets 𝓣 known =
+        walk-meets 𝓤 H A self.ended stayed W (goes-ref 𝓤 H A W 2 0 tt referent, tt) (readClauses 𝓤) (WpFn 𝓤 H (𝓣 .C) (𝓣 .Λ) (body callee)) (WpFn-mono 𝓤 H (W .laws) 𝓣 (body callee))
         (walks (𝓣 .C) (𝓣 .Λ) (fmOf 𝓤 H (W .laws) 𝓣) known)

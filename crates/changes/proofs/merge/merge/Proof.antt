@@ -17,14 +17,14 @@ returns : tie.Need-returns
 returns c =
     let start = c .before .before .before .before in
     let a = start .args in
-    merges-as _ _ _ _ _ _ _ (stored-past (now (a .changes)) (a .count) (c .if1 .taken)) refl (merges-none _ (now (a .out)))
+    merges-as _ _ _ (stored-past (now (a .changes)) (a .count) (c .if1 .taken)) refl (merges-none _ (now (a .out)))
 
 returns-2 : tie.Need-returns-2
 returns-2 c =
     let stand = c .before .before in
     let a = stand .before .before .before .before .args in
     let falls = sym (not-true _ (c .if2 .taken)) ∙ c .before .rising .ensures in
-    merges-as _ _ _ _ _ _ _ (stored-by (now (a .changes)) (a .count) false (stand .if1 .left) falls) refl (merges-none _ (now (a .out)))
+    merges-as _ _ _ (stored-by (now (a .changes)) (a .count) false (stand .if1 .left) falls) refl (merges-none _ (now (a .out)))
 
 merge-whole-requires : tie.Need-merge-whole-requires
 merge-whole-requires c κs =
@@ -41,7 +41,7 @@ returns-3 c =
     let checked = c .before .before in
     let a = checked .before .before .before .before .before .before .before .args in
     let e = sym (checked .check .ensures) ∙ c .enum-told .given .1 in
-    merges-as _ _ _ _ _ _ _ refl (ap (λ (k : Checked). rowsOf k (now (a .store))) e) (merges-bad _ (now (a .out)))
+    merges-as _ _ _ refl (ap (λ (k : Checked). rowsOf k (now (a .store))) e) (merges-bad _ (now (a .out)))
 
 returns-4 : tie.Need-returns-4
 unfolding rowsOf
@@ -54,7 +54,7 @@ returns-4 c =
     let a = stand .before .before .before .before .args in
     let rises = sym (not-false _ (risen .if2 .left)) ∙ risen .before .rising .ensures in
     let e = sym (checked .check .ensures) ∙ told .s .given .1 in
-    merges-as _ _ _ _ _ _ _ (stored-by (now (a .changes)) (a .count) true (stand .if1 .left) rises)
+    merges-as _ _ _ (stored-by (now (a .changes)) (a .count) true (stand .if1 .left) rises)
     (ap (λ (k : Checked). rowsOf k (now (a .store))) e) (done .merge-whole .ensures)
 
 pub merge-spec : {M : Type 1} → statement M

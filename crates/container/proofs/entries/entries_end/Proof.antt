@@ -5,14 +5,14 @@ use denote.Ref.{now}
 use lib.ListN.{drop}
 use borrow.Author.Needs.{needs}
 use Rattle.container.specs.Reader.{entries}
-use Rattle.container.specs.Entries.{endOf}
-use Rattle.container.specs.EntryTold.{entry-found, entry-short}
+use Rattle.container.specs.Entries.{entriesEnd}
+use Rattle.container.specs.EntryToldLaws.{entry-found, entry-short}
 use Rattle.container.specs.EntriesLaws.{end-turn, end-short, end-reached}
 use Rattle.container.proofs.entries.entries_end.Statement.{statement}
 use Rattle.container.proofs.entries.entries_end.Tie as tie
 
 abbrev Inv-loop : tie.InvT-loop
-Inv-loop s first n at₀ more₀ at more = endOf first (entries n (drop first s)) ≡ endOf at (entries more (drop at s))
+Inv-loop s first n at₀ more₀ at more = entriesEnd first (entries n (drop first s)) ≡ entriesEnd at (entries more (drop at s))
 
 abbrev μ-loop : tie.MeasureT-loop
 μ-loop s first n at₀ more₀ at more = more

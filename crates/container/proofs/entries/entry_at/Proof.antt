@@ -6,7 +6,7 @@ use native.Mathlib.Omega.{arith}
 use denote.Ref.{now}
 use lib.ListN.{length}
 use borrow.Author.Needs.{needs}
-use Rattle.container.specs.EntryLaws.{Listed, list-told, short-told, entry-none, short-reads, short-writes, short-keyed-reads, short-keyed-writes, entry-done}
+use Rattle.container.specs.EntryLaws.{ListRead, list-told, short-told, entry-none, short-reads, short-writes, short-keyed-reads, short-keyed-writes, entry-done}
 use Rattle.container.specs.Entries.{entryAt}
 use Rattle.container.proofs.entries.entry_at.Statement.{statement}
 use Rattle.container.proofs.entries.entry_at.Tie as tie
@@ -35,7 +35,7 @@ abbrev at-reads : (c : tie.After-known-told) → tie.After-counted-at
 at-reads c = c .before .before .before
 
 reads-found : (c : tie.After-known-told) →
-    Listed (bytes (at-reads c)) (place (at-reads c) + 8) (c .before .reads .given .0 .0) (c .before .reads .given .0 .1 .0)
+    ListRead (bytes (at-reads c)) (place (at-reads c) + 8) (c .before .reads .given .0 .0) (c .before .reads .given .0 .1 .0)
 reads-found c = let p = at-reads c in list-told (bytes p) (place p + 8) _ _ (sym (c .before .reads .given .1) ∙ p .counted-at .ensures)
 
 returns-3 : tie.Need-returns-3
@@ -50,7 +50,7 @@ abbrev at-writes : (c : tie.After-known-told2) → tie.After-known-told
 at-writes c = c .before .before .before .before
 
 writes-found : (c : tie.After-known-told2) →
-    Listed (bytes (at-reads (at-writes c))) (c .before .before .before .before .before .reads .given .0 .1 .0) (c .before .writes .given .0 .0) (c .before .writes .given .0 .1 .0)
+    ListRead (bytes (at-reads (at-writes c))) (c .before .before .before .before .before .reads .given .0 .1 .0) (c .before .writes .given .0 .0) (c .before .writes .given .0 .1 .0)
 writes-found c = list-told (bytes (at-reads (at-writes c))) _ _ _ (sym (c .before .writes .given .1) ∙ c .before .before .before .counted-at2 .ensures)
 
 returns-4 : tie.Need-returns-4
@@ -66,8 +66,9 @@ abbrev at-keyed-reads : (c : tie.After-known-told3) → tie.After-known-told2
 at-keyed-reads c = c .before .before .before .before
 
 keyed-reads-found : (c : tie.After-known-told3) →
-    Listed (bytes (at-reads (at-writes (at-keyed-reads c)))) (c .before .before .before .before .before .writes .given .0 .1 .0) (c .before .keyed-reads .given .0 .0) (c .before .keyed-reads .given .0 .1 .0)
-keyed-reads-found c = list-told (bytes (at-reads (at-writes (at-keyed-reads c)))) _ _ _ (sym (c .before .keyed-reads .given .1) ∙ c .before .before .before .counted-at3 .ensures)
+    ListRead (bytes (at-reads (at-writes (at-keyed-reads c)))) (c .before .before .before .before .before .writes .given .0 .1 .0) (c .before .keyed-reads .given .0 .0) (c .before .keyed-reads .given .0 .1 .0)
+keyed-reads-found c =
+    list-told (bytes (at-reads (at-writes (at-keyed-reads c)))) _ _ _ (sym (c .before .keyed-reads .given .1) ∙ c .before .before .before .counted-at3 .ensures)
 
 returns-5 : tie.Need-returns-5
 unfolding entryAt

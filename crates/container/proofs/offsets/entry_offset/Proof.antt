@@ -4,7 +4,7 @@ use denote.Ref.{now}
 use borrow.Author.Needs.{needs}
 use Rattle.container.specs.Reader.{readOf}
 use Rattle.container.specs.Offsets.{offsetOf}
-use Rattle.container.specs.ReadTold.{read-told, refused-told}
+use Rattle.container.specs.ReadToldLaws.{read-told, refused-told}
 use Rattle.container.specs.OffsetLaws.{offsetBy, offset-told}
 use Rattle.container.proofs.offsets.entry_offset.Statement.{statement}
 use Rattle.container.proofs.offsets.entry_offset.Tie as tie
@@ -24,7 +24,8 @@ searched c =
     let told-done = c .before .before in
     let bytes-read = told-done .before .before in
     let start = bytes-read .before .before in
-    let s = now (start .args .s) in offset-told s (start .args .selector) _ _ (read-told s _ (sym (told-done .d2 .given .1) ∙ bytes-read .read .ensures)) (c .find .ensures)
+    let s = now (start .args .s) in
+    offset-told s (start .args .selector) _ _ (read-told s _ (sym (told-done .d2 .given .1) ∙ bytes-read .read .ensures)) (c .find .ensures)
 
 returns-2 : tie.Need-returns-2
 returns-2 c = let f = c .before .before .before in ap offsetBy (sym (c .before .f .given .1)) ∙ searched f

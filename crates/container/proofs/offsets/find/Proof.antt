@@ -3,7 +3,7 @@ use mathlib.Core.Path.{sym, _∙_}
 use native.Mathlib.Omega.{arith}
 use denote.Ref.{now}
 use borrow.Author.Needs.{needs}
-use Rattle.container.specs.EntryTold.{EntryFound, entry-found, entry-short}
+use Rattle.container.specs.EntryToldLaws.{EntryFound, entry-found, entry-short}
 use Rattle.container.specs.OffsetLaws.{Searching, search-begins, search-on, none-there, none-left, found-here}
 use Rattle.container.proofs.offsets.find.Statement.{statement}
 use Rattle.container.proofs.offsets.find.Tie as tie

@@ -6,7 +6,7 @@ use native.Mathlib.Omega.{arith}
 use denote.Ref.{now}
 use lib.ListN.{length}
 use borrow.Author.Needs.{needs}
-use Rattle.container.specs.EntryLaws.{Listed, list-told, short-told}
+use Rattle.container.specs.EntryLaws.{ListRead, list-told, short-told}
 use Rattle.container.specs.EntriesLaws.{EntriesFound, entries-found, entries-short}
 use Rattle.container.specs.ReaderLaws.{cut, no-length, no-code, no-consts, no-count, no-entries, left-over, all-read}
 use Rattle.container.proofs.reader.body.Statement.{statement}
@@ -45,7 +45,7 @@ at-consts c = c .before .before .before .before
 abbrev next : (c : tie.After-left) → ℕ
 next c = c .before .before .consts .given .0 .1 .0
 
-consts-found : (c : tie.After-left) → Listed (bytes (at-consts c)) (8 + size (at-consts c)) (c .before .before .consts .given .0 .0) (next c)
+consts-found : (c : tie.After-left) → ListRead (bytes (at-consts c)) (8 + size (at-consts c)) (c .before .before .consts .given .0 .0) (next c)
 consts-found c = let p = at-consts c in list-told (bytes p) (8 + size p) _ _ (sym (c .before .before .consts .given .1) ∙ p .counted-at .ensures)
 
 returns-4 : tie.Need-returns-4

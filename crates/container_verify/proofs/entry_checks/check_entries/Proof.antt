@@ -6,13 +6,14 @@ use lib.ListN.{length, drop, length-set}
 use denote.Ref.{now}
 use borrow.Author.Needs.{needs}
 use Rattle.container_verify.specs.Checks.{Answers}
-use Rattle.container.specs.EntryTold.{EntryFound, entry-found, entry-short}
+use Rattle.container.specs.EntryToldLaws.{EntryFound, entry-found, entry-short}
 use Rattle.container_verify.specs.CheckLaws.{Checking, check-begins, check-on, check-failed, all-checked, none-short, seen-more, seen-part}
 use Rattle.container_verify.proofs.entry_checks.check_entries.Statement.{statement}
 use Rattle.container_verify.proofs.entry_checks.check_entries.Tie as tie
 
 abbrev Inv-loop : tie.InvT-loop
-Inv-loop s map first n seen₀ free₀ at₀ more₀ seen free at more = (length seen ≡ 256) × (more ≤ free) × (free ≤ 256) × Checking s map first n more at (drop free seen)
+Inv-loop s map first n seen₀ free₀ at₀ more₀ seen free at more =
+    (length seen ≡ 256) × (more ≤ free) × (free ≤ 256) × Checking s map first n more at (drop free seen)
 
 abbrev μ-loop : tie.MeasureT-loop
 μ-loop s map first n seen₀ free₀ at₀ more₀ seen free at more = more

@@ -1,23 +1,23 @@
 -- `target_of` meets its contract. Assumes nothing.
 use borrow.Author.Needs.{needs}
-use Rattle.container_verify.specs.Targets.{targetOf}
+use Rattle.container_verify.specs.Targets.{targetStands}
 use Rattle.container_verify.proofs.targets.target_of.Statement.{statement}
 use Rattle.container_verify.proofs.targets.target_of.Tie as tie
 
 returns : tie.Need-returns
-unfolding targetOf
+unfolding targetStands
 returns c = rw (c .before .before .before .r .given .1, ← c .before .is-start .ensures, c .if1 .taken)
 
 returns-2 : tie.Need-returns-2
-unfolding targetOf
+unfolding targetStands
 returns-2 c = rw (c .before .before .before .r .given .1, ← c .before .is-start .ensures, c .if1 .left)
 
 returns-3 : tie.Need-returns-3
-unfolding targetOf
+unfolding targetStands
 returns-3 c = rw (c .enum-told .given .1)
 
 returns-4 : tie.Need-returns-4
-unfolding targetOf
+unfolding targetStands
 returns-4 c = rw (c .enum-told2 .given .1)
 
 pub target-of-spec : {M : Type 1} → statement M

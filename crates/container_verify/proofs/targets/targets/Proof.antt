@@ -6,13 +6,13 @@ use denote.Ref.{now}
 use lib.ListN.{length}
 use borrow.Author.Needs.{needs}
 use Rattle.isa.specs.Codec.{decodeAt}
-use Rattle.isa.specs.RoundTrip.{Place, decode-place}
+use Rattle.isa.specs.RoundTripTheorems.{Place, decode-place}
 use Rattle.isa.specs.declared.instr.Instr.{Instr}
 use Rattle.isa.specs.declared.codec.Decoded.the-variants.{Done}
 use Rattle.isa.specs.declared.flow.Refers.{Refers}
 use Rattle.isa.specs.Refers.{refersTo}
 use Rattle.starts.specs.Marks.{marked}
-use Rattle.container_verify.specs.Targets.{targetOf}
+use Rattle.container_verify.specs.Targets.{targetStands}
 use Rattle.container_verify.specs.TargetLaws.{Aiming, aim-begins, aim-end, aim-refused, aim-bad, aim-on}
 use Rattle.container_verify.proofs.targets.targets.Statement.{statement}
 use Rattle.container_verify.proofs.targets.targets.Tie as tie
@@ -55,8 +55,8 @@ placed : (c : tie.After-target-of Inv-loop μ-loop) → Place (now (start c .arg
 placed c = decode-place (now (start c .args .code)) (here c) (instr c) (size c) (decoded c)
 
 -- whether its target is marked
-aimed : (c : tie.After-target-of Inv-loop μ-loop) → c .target-of .result ≡ targetOf (refersTo (instr c)) (marked (now (start c .args .map)))
-aimed c = c .target-of .ensures ∙ ap (λ (r : Refers). targetOf r (marked (now (start c .args .map)))) (c .before .refers .ensures)
+aimed : (c : tie.After-target-of Inv-loop μ-loop) → c .target-of .result ≡ targetStands (refersTo (instr c)) (marked (now (start c .args .map)))
+aimed c = c .target-of .ensures ∙ ap (λ (r : Refers). targetStands r (marked (now (start c .args .map)))) (c .before .refers .ensures)
 
 returns-2 : tie.Need-returns-2 Inv-loop μ-loop
 returns-2 c =

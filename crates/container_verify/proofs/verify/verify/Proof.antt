@@ -5,9 +5,9 @@ use denote.Ref.{now}
 use borrow.Author.Needs.{needs}
 use Rattle.container.specs.Reader.{readOf}
 use Rattle.container_verify.specs.Verify.{verifiedOf}
-use Rattle.container.specs.ReadTold.{ReadTold, read-told, refused-told, laid, code-within}
+use Rattle.container.specs.ReadToldLaws.{ReadTold, read-told, refused-told, laid, code-within}
 use Rattle.container_verify.specs.VerifyLaws.{verdict, verdict-is}
-use Rattle.container_verify.specs.declared.verify.Check.{Check}
+use Rattle.container_verify.specs.declared.verify.CheckAnswer.{CheckAnswer}
 use Rattle.container_verify.proofs.verify.verify.Statement.{statement}
 use Rattle.container_verify.proofs.verify.verify.Tie as tie
 
@@ -43,13 +43,13 @@ returns-2 c =
     let at-c = c .before in
     let at-before = at-c .before in
     let told-done = at-before .before .before .before .before .before in
-    let k = at-before .before in ap (λ (x : Check). verdict x (told-done .d2 .given .0 .0)) (sym (at-c .c .given .1)) ∙ checked k
+    let k = at-before .before in ap (λ (x : CheckAnswer). verdict x (told-done .d2 .given .0 .0)) (sym (at-c .c .given .1)) ∙ checked k
 
 returns-3 : tie.Need-returns-3
 returns-3 c =
     let at-before = c .before in
     let told-done = at-before .before .before .before .before .before in
-    let k = at-before .before in ap (λ (x : Check). verdict x (told-done .d2 .given .0 .0)) (sym (c .enum-told .given .1)) ∙ checked k
+    let k = at-before .before in ap (λ (x : CheckAnswer). verdict x (told-done .d2 .given .0 .0)) (sym (c .enum-told .given .1)) ∙ checked k
 
 pub verify-spec : {M : Type 1} → statement M
 verify-spec =

@@ -8,10 +8,10 @@ use denote.Ref.{now}
 use lib.ListN.{length, drop}
 use borrow.Author.Needs.{needs}
 use borrow.Author.Tests.{not-true, not-false}
+use Rattle.words.specs.Choice.{isSome}
 use Rattle.words.specs.BytesLaws.{rest}
 use Rattle.container_writer.specs.Writer.{beginsEntry, slotsIn, entriesIn, listed}
-use Rattle.container_writer.specs.WriterParts.{isSome}
-use Rattle.container_writer.specs.WriterLaws.{begins, Step, step, is-turn, is-none, is-whole, listed-empty, listed-large, listed-is}
+use Rattle.container_writer.specs.WriterLaws.{begins, EntryStep, step, is-turn, is-none, is-whole, listed-empty, listed-large, listed-is}
 use Rattle.container_writer.proofs.writer.is_list.Statement.{statement}
 use Rattle.container_writer.proofs.writer.is_list.Tie as tie
 
@@ -57,7 +57,7 @@ slots-requires c κs =
     let b = begins (drop (l .loop .at) list) (entry-here (c .before)) in
     rw (rest (l .loop .at) list) (b .six, b .short)
 
-here : (c : tie.After-slots Inv-loop μ-loop) → let l = loop-of (c .before .before) in Step (now (list-of l .args .list)) (l .loop .at) (c .slots .result)
+here : (c : tie.After-slots Inv-loop μ-loop) → let l = loop-of (c .before .before) in EntryStep (now (list-of l .args .list)) (l .loop .at) (c .slots .result)
 here c =
     let l = loop-of (c .before .before) in
     let list = now (list-of l .args .list) in

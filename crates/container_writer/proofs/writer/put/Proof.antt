@@ -7,25 +7,27 @@ use lib.ListN.{length, drop}
 use borrow.Author.Needs.{needs}
 use Rattle.words.specs.Bytes.{beBytes}
 use Rattle.words.specs.BytesLaws.{rest}
-use Rattle.container.specs.Canonical.{tag, countedBytes, entriesBytes, canonical}
-use Rattle.container_writer.specs.Writer.{at, entriesIn}
+use Rattle.container.specs.Container.{tag}
+use Rattle.container.specs.Canonical.{countedBytes, entriesBytes, canonical}
+use Rattle.words.specs.Lists.{nth}
+use Rattle.container_writer.specs.Writer.{entriesIn}
 use Rattle.container_writer.specs.WriterParts.{orEmpty, containerOf}
-use Rattle.container_writer.specs.WriterLaws.{Listed, listed-so}
+use Rattle.container_writer.specs.WriterLaws.{ListStands, listed-so}
 use Rattle.container_writer.specs.WriterSizeLaws.{canonical-is}
-use Rattle.container_writer.specs.WriterLaidLaws.{Rest, rest-start, rest-as, rest-turn, piece-room, number-room}
+use Rattle.container_writer.specs.WriterLaidLaws.{LaidRest, rest-start, rest-as, rest-turn, piece-room, number-room}
 use Rattle.container_writer.proofs.writer.put.Statement.{statement}
 use Rattle.container_writer.proofs.writer.put.Tie as tie
 
 -- what is left to lay down from a place on
 abbrev Left : tie.Start → List ℕ → ℕ → List ℕ → Type 0
-Left c out end rest = let a = c .args in Rest (now (a .out)) 0 (canonical (containerOf (now (a .code)) (now (a .consts)) (now (a .list)))) out end rest
+Left c out end rest = let a = c .args in LaidRest (now (a .out)) 0 (canonical (containerOf (now (a .code)) (now (a .consts)) (now (a .list)))) out end rest
 
 -- the last pieces of the container
 abbrev entries-on : tie.Start → List ℕ
-entries-on c = let list = now (c .args .list) in entriesBytes (orEmpty (entriesIn (at list 0) (drop 1 list)))
+entries-on c = let list = now (c .args .list) in entriesBytes (orEmpty (entriesIn (nth list 0) (drop 1 list)))
 
 abbrev count-on : tie.Start → List ℕ
-count-on c = beBytes 4 (at (now (c .args .list)) 0) ++ entries-on c
+count-on c = beBytes 4 (nth (now (c .args .list)) 0) ++ entries-on c
 
 abbrev consts-on : tie.Start → List ℕ
 consts-on c = countedBytes (now (c .args .consts)) ++ count-on c
@@ -36,7 +38,7 @@ code-on c = now (c .args .code) ++ consts-on c
 abbrev length-on : tie.Start → List ℕ
 length-on c = beBytes 4 (length (now (c .args .code))) ++ code-on c
 
-a-list : (c : tie.Start) → Listed (now (c .args .list))
+a-list : (c : tie.Start) → ListStands (now (c .args .list))
 a-list c = listed-so (now (c .args .list)) (c .pre .0)
 
 all-left : (c : tie.Start) → Left c (now (c .args .out)) 0 (beBytes 4 tag ++ length-on c)
@@ -101,7 +103,7 @@ put-counted-requires c κs =
 put-number-requires-3 : tie.Need-put-number-requires-3
 put-number-requires-3 c κs =
     let p = c .before .before .before in
-    number-room 4 (at (now (consts-start p .args .list)) 0) (entries-on (consts-start p)) (consts-left p)
+    number-room 4 (nth (now (consts-start p .args .list)) 0) (entries-on (consts-start p)) (consts-left p)
 
 sub-put-entries : tie.Need-sub-put-entries
 sub-put-entries c = omega (arith, a-list (count-start (c .before .before .before)) .stands)

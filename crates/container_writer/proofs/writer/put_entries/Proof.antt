@@ -6,12 +6,13 @@ use Prim.Native.Nat.{ℕ, _-_, _≤_}
 use native.Mathlib.Omega.{arith}
 use denote.Ref.{now}
 use lib.ListN.{length, drop}
+use Rattle.words.specs.Choice.{isSome}
 use Rattle.words.specs.BytesLaws.{rest}
 use Rattle.container.specs.Canonical.{entryBytes, entriesBytes}
 use Rattle.container_writer.specs.Writer.{slotsIn, entryIn, entriesIn}
-use Rattle.container_writer.specs.WriterParts.{isSome, orEmpty}
-use Rattle.container_writer.specs.WriterLaidLaws.{Rest, rest-start, rest-turn, rest-end, piece-room}
-use Rattle.container_writer.specs.WriterLaws.{afterEntry, begins, Step, step, More, more, bytes-turn, bytes-end}
+use Rattle.container_writer.specs.WriterParts.{orEmpty}
+use Rattle.container_writer.specs.WriterLaidLaws.{LaidRest, rest-start, rest-turn, rest-end, piece-room}
+use Rattle.container_writer.specs.WriterLaws.{afterEntry, begins, EntryStep, step, More, more, bytes-turn, bytes-end}
 use Rattle.container_writer.proofs.writer.put_entries.Statement.{statement}
 use Rattle.container_writer.proofs.writer.put_entries.Tie as tie
 
@@ -21,7 +22,7 @@ bytes n xs = entriesBytes (orEmpty (entriesIn n xs))
 
 abbrev Inv-loop : tie.InvT-loop
 Inv-loop out₀ at n list end₀ from₀ left₀ out end from left =
-    (from ≤ length list) × (isSome (entriesIn left (drop from list)) ≡ true) × Rest out₀ at (bytes n list) out end (bytes left (drop from list))
+    (from ≤ length list) × (isSome (entriesIn left (drop from list)) ≡ true) × LaidRest out₀ at (bytes n list) out end (bytes left (drop from list))
 
 abbrev μ-loop : tie.MeasureT-loop
 μ-loop out₀ at n list end₀ from₀ left₀ out end from left = left
@@ -43,7 +44,7 @@ abbrev later : tie.In-loop Inv-loop μ-loop → List ℕ
 later c = bytes (c .before .loop .left - 1) (afterEntry (here c))
 
 next : (c : tie.In-loop Inv-loop μ-loop) → let a = start c .args in let l = c .before .loop in
-    Rest (now (a .out)) (a .at) (bytes (a .n) (now (a .list))) (l .out) (l .end) (entryBytes (entryIn (here c)) ++ later c)
+    LaidRest (now (a .out)) (a .at) (bytes (a .n) (now (a .list))) (l .out) (l .end) (entryBytes (entryIn (here c)) ++ later c)
 next c = rw (bytes-turn (c .before .loop .left) (here c) (another c)) at (c .before .loop .inv .2)
 
 put-entry-requires : tie.Need-put-entry-requires Inv-loop μ-loop
@@ -64,7 +65,7 @@ slots-requires c κs =
 abbrev turn′ : tie.After-slots Inv-loop μ-loop → tie.In-loop Inv-loop μ-loop
 turn′ c = turn (c .before .before .before .before)
 
-stands : (c : tie.After-slots Inv-loop μ-loop) → Step (now (start (turn′ c) .args .list)) (turn′ c .before .loop .from) (c .slots .result)
+stands : (c : tie.After-slots Inv-loop μ-loop) → EntryStep (now (start (turn′ c) .args .list)) (turn′ c .before .loop .from) (c .slots .result)
 stands c =
     let t = turn′ c in
     let l = t .before .loop in

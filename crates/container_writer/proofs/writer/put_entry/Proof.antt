@@ -8,7 +8,7 @@ use Rattle.words.specs.Bytes.{beBytes}
 use Rattle.container.specs.Container.{Entry}
 use Rattle.container.specs.Canonical.{countedBytes, entryBytes}
 use Rattle.container_writer.specs.Writer.{slotsIn, entryIn}
-use Rattle.container_writer.specs.WriterLaidLaws.{Rest, rest-start, rest-turn, piece-room, number-room}
+use Rattle.container_writer.specs.WriterLaidLaws.{LaidRest, rest-start, rest-turn, piece-room, number-room}
 use Rattle.container_writer.proofs.writer.put_entry.Statement.{statement}
 use Rattle.container_writer.proofs.writer.put_entry.Tie as tie
 
@@ -17,7 +17,7 @@ entry c = entryIn (now (c .args .list))
 
 -- what is left to lay down from a place on
 abbrev Left : tie.Start → List ℕ → ℕ → List ℕ → Type 0
-Left c out end rest = Rest (now (c .args .out)) (c .args .at) (entryBytes (entry c)) out end rest
+Left c out end rest = LaidRest (now (c .args .out)) (c .args .at) (entryBytes (entry c)) out end rest
 
 -- the last pieces of the entry
 abbrev keyed-writes-on : Entry → List ℕ
@@ -75,7 +75,8 @@ writes-left : (c : tie.After-put-slots2) → Left (writes-start c) (c .put-slots
 unfolding entryIn
 writes-left c = rest-turn (reads-left (c .before .before .before .before)) (c .put-slots2 .ensures)
 
-keyed-reads-left : (c : tie.After-put-slots3) → Left (keyed-reads-start c) (c .put-slots3 .last .0) (c .put-slots3 .result) (keyed-writes-on (entry (keyed-reads-start c)))
+keyed-reads-left : (c : tie.After-put-slots3) →
+    Left (keyed-reads-start c) (c .put-slots3 .last .0) (c .put-slots3 .result) (keyed-writes-on (entry (keyed-reads-start c)))
 unfolding entryIn
 keyed-reads-left c = rest-turn (writes-left (c .before .before .before .before)) (c .put-slots3 .ensures)
 

@@ -6,12 +6,12 @@ use denote.Ref.{now}
 use lib.ListN.{length, drop, getD}
 use Rattle.words.specs.Bytes.{beBytes}
 use Rattle.container.specs.Canonical.{wordBytes}
-use Rattle.container_writer.specs.WriterLaidLaws.{Rest, rest-start, rest-turn, rest-end, number-room, words-turn, words-end}
+use Rattle.container_writer.specs.WriterLaidLaws.{LaidRest, rest-start, rest-turn, rest-end, number-room, word-bytes-turn, word-bytes-end}
 use Rattle.container_writer.proofs.writer.put_words.Statement.{statement}
 use Rattle.container_writer.proofs.writer.put_words.Tie as tie
 
 abbrev Inv-loop : tie.InvT-loop
-Inv-loop out₀ at list end₀ i₀ out end i = Rest out₀ at (wordBytes list) out end (wordBytes (drop i list))
+Inv-loop out₀ at list end₀ i₀ out end i = LaidRest out₀ at (wordBytes list) out end (wordBytes (drop i list))
 
 abbrev μ-loop : tie.MeasureT-loop
 μ-loop out₀ at list end₀ i₀ out end i = length list - i
@@ -30,8 +30,8 @@ abbrev later : tie.In-loop Inv-loop μ-loop → List ℕ
 later c = wordBytes (drop (c .before .loop .i + 1) (now (start c .args .list)))
 
 next : (c : tie.In-loop Inv-loop μ-loop) →
-    Rest (now (start c .args .out)) (start c .args .at) (wordBytes (now (start c .args .list))) (c .before .loop .out) (c .before .loop .end) (beBytes 8 (read c) ++ later c)
-next c = rw (words-turn (now (start c .args .list)) (c .before .loop .i) (c .loop-test .taken)) at (c .before .loop .inv)
+    LaidRest (now (start c .args .out)) (start c .args .at) (wordBytes (now (start c .args .list))) (c .before .loop .out) (c .before .loop .end) (beBytes 8 (read c) ++ later c)
+next c = rw (word-bytes-turn (now (start c .args .list)) (c .before .loop .i) (c .loop-test .taken)) at (c .before .loop .inv)
 
 put-number-requires : tie.Need-put-number-requires Inv-loop μ-loop
 put-number-requires c κs =
@@ -47,7 +47,7 @@ same-length c = c .before .loop .inv .same
 returns : tie.Need-returns Inv-loop μ-loop
 returns c =
     let p = c .before in
-    rest-end (rw (words-end (now (p .before .before .before .args .list)) (p .loop .i) (c .loop-test .left)) at (p .loop .inv))
+    rest-end (rw (word-bytes-end (now (p .before .before .before .args .list)) (p .loop .i) (c .loop-test .left)) at (p .loop .inv))
 
 pub put-words-spec : {M : Type 1} → statement M
 put-words-spec =

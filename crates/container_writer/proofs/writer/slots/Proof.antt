@@ -4,12 +4,13 @@ use Prim.Native.Nat.{ℕ, _^_, _<_}
 use native.Mathlib.Omega.{arith}
 use denote.Ref.{now}
 use borrow.Author.Needs.{needs}
-use Rattle.container_writer.specs.Writer.{at, slotsIn}
+use Rattle.words.specs.Lists.{nth}
+use Rattle.container_writer.specs.Writer.{slotsIn}
 use Rattle.container_writer.specs.WriterLaws.{six-short}
 use Rattle.container_writer.proofs.writer.slots.Statement.{statement}
 use Rattle.container_writer.proofs.writer.slots.Tie as tie
 
-short : (c : tie.Start) (k : ℕ) → k < 6 → at (now (c .args .list)) k < 2 ^ 32
+short : (c : tie.Start) (k : ℕ) → k < 6 → nth (now (c .args .list)) k < 2 ^ 32
 short c k = six-short (now (c .args .list)) k (c .pre .0) (c .pre .1)
 
 add-result : tie.Need-add-result

@@ -8,13 +8,15 @@ use denote.Ref.{now}
 use lib.ListN.{length}
 use borrow.Author.Needs.{needs}
 use borrow.Author.Tests.{not-true, not-false}
+use Rattle.words.specs.Choice.{isSome}
 use Rattle.container.specs.Container.{Container}
 use Rattle.container.specs.Canonical.{canonical}
-use Rattle.container_writer.specs.Writer.{at, listed, toWrite}
-use Rattle.container_writer.specs.WriterParts.{isSome, containerOf}
-use Rattle.container_writer.specs.WriterLaws.{Listed, listed-so}
+use Rattle.words.specs.Lists.{nth}
+use Rattle.container_writer.specs.Writer.{listed, toWrite}
+use Rattle.container_writer.specs.WriterParts.{containerOf}
+use Rattle.container_writer.specs.WriterLaws.{ListStands, listed-so}
 use Rattle.container_writer.specs.WriterSizeLaws.{length-canonical, listed-size}
-use Rattle.container_writer.specs.WriterAnswerLaws.{long-code, long-consts, no-list, a-list, refused, no-room, done}
+use Rattle.container_writer.specs.WriterAnswerLaws.{long-code, long-consts, no-list, a-list, answer-refused, no-room, answer-done}
 use Rattle.container_writer.proofs.writer.write.Statement.{statement}
 use Rattle.container_writer.proofs.writer.write.Tie as tie
 
@@ -30,7 +32,7 @@ returns : tie.Need-returns
 returns c =
     let s = c .before .before .before .before .before in
     let a = s .args in
-    let e = refused (said s) (now (a .out)) (long-code (now (a .code)) (now (a .consts)) (now (a .list)) (c .if1 .taken)) in
+    let e = answer-refused (said s) (now (a .out)) (long-code (now (a .code)) (now (a .consts)) (now (a .list)) (c .if1 .taken)) in
     (e .0, e .1)
 
 returns-2 : tie.Need-returns-2
@@ -38,7 +40,7 @@ returns-2 c =
     let p = c .before .before .before in
     let s = p .before .before .before in
     let a = s .args in
-    let e = refused (said s) (now (a .out)) (long-consts (now (a .code)) (now (a .consts)) (now (a .list)) (c .before .if1 .left) (c .if2 .taken)) in
+    let e = answer-refused (said s) (now (a .out)) (long-consts (now (a .code)) (now (a .consts)) (now (a .list)) (c .before .if1 .left) (c .if2 .taken)) in
     (e .0, e .1)
 
 returns-3 : tie.Need-returns-3
@@ -46,7 +48,7 @@ returns-3 c =
     let p = c .before .before in
     let s = start p in
     let a = s .args in
-    let e = refused (said s) (now (a .out)) (no-list (now (a .code)) (now (a .consts)) (now (a .list)) (p .before .if1 .left) (p .if2 .left)
+    let e = answer-refused (said s) (now (a .out)) (no-list (now (a .code)) (now (a .consts)) (now (a .list)) (p .before .if1 .left) (p .if2 .left)
     (sym (c .before .is-list .ensures) ∙ not-true _ (c .if3 .taken))) in
     (e .0, e .1)
 
@@ -67,10 +69,10 @@ to-write c =
     a-list (now (a .code)) (now (a .consts)) (now (a .list)) (p .before .if1 .left) (p .if2 .left) (is-one c)
 
 size : (c : tie.Else3) → let a = start′ c .args in
-    8 + length (now (a .code)) + length (now (a .consts)) * 8 + length (now (a .list)) * 8 ≡ length (canonical (whole (start′ c))) + at (now (a .list)) 0 * 24
+    8 + length (now (a .code)) + length (now (a .consts)) * 8 + length (now (a .list)) * 8 ≡ length (canonical (whole (start′ c))) + nth (now (a .list)) 0 * 24
 size c = let a = start′ c .args in listed-size (now (a .code)) (now (a .consts)) (now (a .list)) (is-one c)
 
-a-count : (c : tie.Else3) → Listed (now (start′ c .args .list))
+a-count : (c : tie.Else3) → ListStands (now (start′ c .args .list))
 a-count c = listed-so (now (start′ c .args .list)) (is-one c)
 
 shared-slice-read-n : tie.Need-shared-slice-read-n
@@ -98,7 +100,7 @@ returns-5 c =
     let f = w .before .before in
     let p = f .before .before in
     let s = start′ p in
-    let e = done (said s) (now (s .args .out)) _ (whole s) (w .put .result) (to-write p) (omega (arith, size p, f .if4 .left)) (w .put .ensures) in
+    let e = answer-done (said s) (now (s .args .out)) _ (whole s) (w .put .result) (to-write p) (omega (arith, size p, f .if4 .left)) (w .put .ensures) in
     (e .0, e .1)
 
 pub write-spec : {M : Type 1} → statement M

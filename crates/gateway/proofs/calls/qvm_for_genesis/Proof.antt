@@ -5,7 +5,8 @@ use Rattle.gateway.proofs.calls.qvm_for_genesis.Statement.{statement}
 use Rattle.gateway.proofs.calls.qvm_for_genesis.Tie as tie
 
 abbrev called : tie.After-slice-known20 → tie.After-answer-call
-called c = c .before .before .before .before .before .before .before .before .before .before .before .before .before .before .before .before .before .before .before .before
+called c =
+    c .before .before .before .before .before .before .before .before .before .before .before .before .before .before .before .before .before .before .before .before
 
 abbrev made : tie.After-answer-call → tie.After-for-genesis
 made c = c .before .before .before .before .before .before .before .before .before .before .before

@@ -18,7 +18,9 @@ copy-in-requires-2 : tie.Need-copy-in-requires-2
 copy-in-requires-2 c κs =
     let tested = c .before .before in
     let start = tested .before .before .before in
-    let m = start .args .memory .now in let p = now (start .args .preload) in omega (arith, length-take-le (length m) p (omega (arith, tested .if1 .left)))
+    let m = start .args .memory .now in
+    let p = now (start .args .preload) in
+    omega (arith, length-take-le (length m) p (omega (arith, tested .if1 .left)))
 
 returns : tie.Need-returns
 returns c =

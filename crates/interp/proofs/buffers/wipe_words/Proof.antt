@@ -31,13 +31,19 @@ loop-less : tie.Need-loop-less Inv-loop μ-loop
 loop-less c = omega arith
 
 loop-again : tie.Need-loop-again Inv-loop μ-loop
-loop-again c = let l = c .before .loop in let a = c .before .before .args in (omega arith, clear-turn (a .t .now) (l .t) 0 (l .i) (omega arith) (omega arith) (l .inv .1), simp length-set (l .inv .2))
+loop-again c =
+    let l = c .before .loop in
+    let a = c .before .before .args in
+    (omega arith, clear-turn (a .t .now) (l .t) 0 (l .i) (omega arith) (omega arith) (l .inv .1), simp length-set (l .inv .2))
 
 same-length : tie.Need-same-length Inv-loop μ-loop
 same-length c = c .before .loop .inv .2
 
 returns : tie.Need-returns Inv-loop μ-loop
-returns c = let l = c .before .loop in let a = c .before .before .args in all-wiped (a .t .now) (l .t) (clear-end (a .t .now) (l .t) 0 (l .i) (omega arith) (omega arith) (l .inv .1))
+returns c =
+    let l = c .before .loop in
+    let a = c .before .before .args in
+    all-wiped (a .t .now) (l .t) (clear-end (a .t .now) (l .t) 0 (l .i) (omega arith) (omega arith) (l .inv .1))
 
 pub wipe-words-spec : {M : Type 1} → statement M
 wipe-words-spec = tie.close (tie.spec Inv-loop μ-loop loop-holds mul-t slice-write-t add-i loop-less loop-again same-length returns)

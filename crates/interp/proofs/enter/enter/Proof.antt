@@ -1,154 +1,150 @@
 -- `enter` meets its contract. Assumes nothing.
+use mathlib.Core.Path.{_∙_}
 use borrow.Author.Needs.{needs}
-use native.Mathlib.Omega.{arith}
-use Rattle.interp.specs.EnterLaws.{within, launched, entered}
+use denote.Ref.{now}
+use Rattle.keys.specs.Lent as tables
+use Rattle.opening.specs.Opening.{Lent}
+use Rattle.interp.specs.Call.{lentAs}
+use Rattle.interp.specs.Entered.{Cut}
+use Rattle.interp.specs.EnterLaws.{SameSizes, within, starting, entered}
 use Rattle.interp.proofs.enter.enter.Statement.{statement}
 use Rattle.interp.proofs.enter.enter.Tie as tie
 
--- ---- places: from the layout to the start, from the first run to the layout, from the end to the run
+-- ---- places: from the end to the three calls before it, then to the first run, to the opening and to the start
 
-abbrev start : tie.After-struct-known → tie.Start
-start c = c .before .before .before .before .before .before .before .before .before .before .before .before .before .before .before .before .before
+abbrev finished : tie.After-slice-known35 → tie.After-finish
+finished c = c .before .before .before .before .before .before .before .before .before .before .before .before .before .before .before .before .before .before
 
-abbrev slots : tie.After-first-run → tie.After-struct-known
-slots c = c .before .before .before .before .before .before .before .before .before .before
+abbrev ran : tie.After-finish → tie.After-exec
+ran c =
+    c .before .before .before .before .before .before .before .before .before .before .before .before .before .before .before .before .before .before .before .before .before .before .before .before .before .before
 
-abbrev driven : tie.After-slice-known18 → tie.After-drive
-driven c = c .before .before .before .before .before .before .before .before .before .before .before .before .before .before .before .before .before .before
+abbrev begun : tie.After-exec → tie.After-begin
+begun c =
+    c .before .before .before .before .before .before .before .before .before .before .before .before .before .before .before .before .before .before .before .before .before .before .before .before .before .before .before .before
 
-abbrev first : tie.After-drive → tie.After-first-run
-first c = c .before .before .before .before .before .before .before .before .before .before .before .before .before .before .before .before .before
+abbrev first : tie.After-begin → tie.After-first-run
+first c = c .before .before .before .before .before .before .before .before .before .before
+
+abbrev cut : tie.After-first-run → tie.After-e
+cut c = c .before .before .before .before .before .before .before
+
+abbrev start : tie.After-e → tie.Start
+start c = c .before .before .before .before .before .before .before .before .before .before .before .before .before .before .before .before
+
+-- the parts as they were cut
+cut-so : (c : tie.After-first-run) →
+    Cut (start (cut c) .args .o) (now (start (cut c) .args .container))
+    (now (c .before .before .before .before .before .before .part .result)) (now (c .before .before .before .before .before .words-of .result))
+    (now (c .before .before .before .before .words-of2 .result)) (now (c .before .before .before .words-of3 .result))
+    (now (c .before .before .words-of4 .result)) (now (c .before .words-of5 .result))
+cut-so c =
+    let kw = c .before in
+    let kr = kw .before in
+    let w = kr .before in
+    let r = w .before in
+    let k = r .before in
+    record {
+      code-is = k .before .part .ensures;
+      consts-are = k .words-of .ensures;
+      reads-are = r .words-of2 .ensures;
+      writes-are = w .words-of3 .ensures;
+      keyed-reads-are = kr .words-of4 .ensures;
+      keyed-writes-are = kw .words-of5 .ensures;
+    }
+
+-- ---- the buffers at the start, after the run and at the end, and that they are as long
+
+abbrev lent-at : tie.After-e → Lent
+lent-at c =
+    let a = start c .args in
+    lentAs (a .memory .now) (a .stack .now)
+    (tables.keyBufs (a .changes .now) (a .fetched .now) (a .readable .now) (a .writable .now) (a .paid .now)) (a .log .now) (a .starts .now)
+
+abbrev left-by : tie.After-exec → Lent
+left-by c =
+    let l = c .exec .last .1 .1 .1 .1 .1 .1 .1 .1 .1 .1 .1 .1 .1 in
+    let starts = begun c .begin .last .1 .1 .1 .1 .0 in
+    lentAs (l .0) (l .1 .0) (tables.keyBufs (l .1 .1 .0) (l .1 .1 .1 .0) (l .1 .1 .1 .1 .0) (l .1 .1 .1 .1 .1 .0) (l .1 .1 .1 .1 .1 .1 .0)) (l .1 .1 .1 .1 .1 .1 .1 .0) starts
+
+abbrev left-at-end : tie.After-finish → Lent
+left-at-end c =
+    let l = c .finish .last .1 in
+    lentAs (l .0) (l .1 .0) (tables.keyBufs (l .1 .1 .1 .0) (l .1 .1 .1 .1 .0) (l .1 .1 .1 .1 .1 .0) (l .1 .1 .1 .1 .1 .1 .0) (l .1 .1 .1 .1 .1 .1 .1 .0)) (l .1 .1 .1 .1 .1 .1 .1 .1 .0) (l .1 .1 .0)
+
+sizes-run : (c : tie.After-exec) → SameSizes (left-by c) (lent-at (cut (first (begun c))))
+sizes-run c =
+    let lens = c .exec .kept .1 .1 .1 .1 .1 .1 .1 .1 .1 .1 .1 .1 .1 in
+    let were = begun c .begin .kept .1 .1 in
+    record {
+      run = record {
+        memory = lens .0 ∙ were .0;
+        stack = lens .1 .0 ∙ were .1 .0;
+        changes = lens .1 .1 .0 ∙ were .1 .1 .1 .0;
+        fetched = lens .1 .1 .1 .0 ∙ were .1 .1 .1 .1 .0;
+        readable = lens .1 .1 .1 .1 .0 ∙ were .1 .1 .1 .1 .1 .0;
+        writable = lens .1 .1 .1 .1 .1 .0 ∙ were .1 .1 .1 .1 .1 .1 .0;
+        paid = lens .1 .1 .1 .1 .1 .1 .0 ∙ were .1 .1 .1 .1 .1 .1 .1 .0;
+        log = lens .1 .1 .1 .1 .1 .1 .1 .0 ∙ were .1 .1 .1 .1 .1 .1 .1 .1 .0;
+      };
+      starts = were .1 .1 .0;
+    }
+
+sizes-end : (c : tie.After-finish) → SameSizes (left-at-end c) (lent-at (cut (first (begun (ran c)))))
+sizes-end c =
+    let lens = c .finish .kept .1 in
+    let z = sizes-run (ran c) in
+    record {
+      run = record {
+        memory = lens .0 ∙ z .run .memory;
+        stack = lens .1 .0 ∙ z .run .stack;
+        changes = lens .1 .1 .1 .0 ∙ z .run .changes;
+        fetched = lens .1 .1 .1 .1 .0 ∙ z .run .fetched;
+        readable = lens .1 .1 .1 .1 .1 .0 ∙ z .run .readable;
+        writable = lens .1 .1 .1 .1 .1 .1 .0 ∙ z .run .writable;
+        paid = lens .1 .1 .1 .1 .1 .1 .1 .0 ∙ z .run .paid;
+        log = lens .1 .1 .1 .1 .1 .1 .1 .1 .0 ∙ z .run .log;
+      };
+      starts = lens .1 .1 .0 ∙ z .starts;
+    }
 
 -- ---- the needs
 
-add-code-end : tie.Need-add-code-end
-add-code-end c = let w = within _ _ _ _ _ _ _ _ _ (start c .pre) in omega (arith, w .code, start c .good)
-
-mul-consts-end : tie.Need-mul-consts-end
-mul-consts-end c = let w = within _ _ _ _ _ _ _ _ _ (start (c .before) .pre) in omega (arith, w .consts, start (c .before) .good)
-
-add-consts-end : tie.Need-add-consts-end
-add-consts-end c = let w = within _ _ _ _ _ _ _ _ _ (start (c .before) .pre) in omega (arith, w .consts, start (c .before) .good)
-
-mul-reads-end : tie.Need-mul-reads-end
-mul-reads-end c = let w = within _ _ _ _ _ _ _ _ _ (start (c .before .before .before) .pre) in omega (arith, w .reads, start (c .before .before .before) .good)
-
-add-reads-end : tie.Need-add-reads-end
-add-reads-end c = let w = within _ _ _ _ _ _ _ _ _ (start (c .before .before .before) .pre) in omega (arith, w .reads, start (c .before .before .before) .good)
-
-mul-writes-end : tie.Need-mul-writes-end
-mul-writes-end c = let w = within _ _ _ _ _ _ _ _ _ (start (c .before .before .before .before .before) .pre) in omega (arith, w .writes, start (c .before .before .before .before .before) .good)
-
-add-writes-end : tie.Need-add-writes-end
-add-writes-end c = let w = within _ _ _ _ _ _ _ _ _ (start (c .before .before .before .before .before) .pre) in omega (arith, w .writes, start (c .before .before .before .before .before) .good)
-
-mul-keyed-reads-end : tie.Need-mul-keyed-reads-end
-mul-keyed-reads-end c = let w = within _ _ _ _ _ _ _ _ _ (start (c .before .before .before .before .before .before .before) .pre) in omega (arith, w .keyed-reads, start (c .before .before .before .before .before .before .before) .good)
-
-add-keyed-reads-end : tie.Need-add-keyed-reads-end
-add-keyed-reads-end c = let w = within _ _ _ _ _ _ _ _ _ (start (c .before .before .before .before .before .before .before) .pre) in omega (arith, w .keyed-reads, start (c .before .before .before .before .before .before .before) .good)
-
-mul-keyed-writes-end : tie.Need-mul-keyed-writes-end
-mul-keyed-writes-end c = let w = within _ _ _ _ _ _ _ _ _ (start (c .before .before .before .before .before .before .before .before .before) .pre) in omega (arith, w .keyed-writes, start (c .before .before .before .before .before .before .before .before .before) .good)
-
-add-keyed-writes-end : tie.Need-add-keyed-writes-end
-add-keyed-writes-end c = let w = within _ _ _ _ _ _ _ _ _ (start (c .before .before .before .before .before .before .before .before .before) .pre) in omega (arith, w .keyed-writes, start (c .before .before .before .before .before .before .before .before .before) .good)
-
-part-drive-end : tie.Need-part-drive-end
-part-drive-end c = within _ _ _ _ _ _ _ _ _ (start (slots (c .before)) .pre) .code
-
-part-drive-end-2 : tie.Need-part-drive-end-2
-part-drive-end-2 c = within _ _ _ _ _ _ _ _ _ (start (slots (c .before .before)) .pre) .consts
-
-part-drive-end-3 : tie.Need-part-drive-end-3
-part-drive-end-3 c = within _ _ _ _ _ _ _ _ _ (start (slots (c .before .before .before)) .pre) .reads
-
-part-drive-end-4 : tie.Need-part-drive-end-4
-part-drive-end-4 c = within _ _ _ _ _ _ _ _ _ (start (slots (c .before .before .before .before)) .pre) .writes
-
-part-drive-end-5 : tie.Need-part-drive-end-5
-part-drive-end-5 c = within _ _ _ _ _ _ _ _ _ (start (slots (c .before .before .before .before .before)) .pre) .keyed-reads
-
-part-drive-end-6 : tie.Need-part-drive-end-6
-part-drive-end-6 c = within _ _ _ _ _ _ _ _ _ (start (slots (c .before .before .before .before .before .before)) .pre) .keyed-writes
-
-drive-requires : tie.Need-drive-requires
-drive-requires c κs =
-    let first = c .before .before .before .before .before .before .before .before .before .before .before .before .before .before .before .before in
-    launched _ _ _ _ _ _ _ _ _ (start (slots first) .pre) _ (first .first-run .ensures)
-
-same-length : tie.Need-same-length
-same-length c = driven c .drive .kept .1 .1 .1 .1 .1 .1 .1 .1 .1 .1 .1 .1 .1 .0
-
-same-length-2 : tie.Need-same-length-2
-same-length-2 c = driven c .drive .kept .1 .1 .1 .1 .1 .1 .1 .1 .1 .1 .1 .1 .1 .1 .0
-
-same-length-3 : tie.Need-same-length-3
-same-length-3 c = driven c .drive .kept .1 .1 .1 .1 .1 .1 .1 .1 .1 .1 .1 .1 .1 .1 .1 .0
-
-same-length-4 : tie.Need-same-length-4
-same-length-4 c = driven c .drive .kept .1 .1 .1 .1 .1 .1 .1 .1 .1 .1 .1 .1 .1 .1 .1 .1 .0
-
-same-length-5 : tie.Need-same-length-5
-same-length-5 c = driven c .drive .kept .1 .1 .1 .1 .1 .1 .1 .1 .1 .1 .1 .1 .1 .1 .1 .1 .1 .0
-
-same-length-6 : tie.Need-same-length-6
-same-length-6 c = driven c .drive .kept .1 .1 .1 .1 .1 .1 .1 .1 .1 .1 .1 .1 .1 .1 .1 .1 .1 .1 .0
-
-same-length-7 : tie.Need-same-length-7
-same-length-7 c = driven c .drive .kept .1 .1 .1 .1 .1 .1 .1 .1 .1 .1 .1 .1 .1 .1 .1 .1 .1 .1 .1 .0
-
-same-length-8 : tie.Need-same-length-8
-same-length-8 c = driven c .drive .kept .1 .1 .1 .1 .1 .1 .1 .1 .1 .1 .1 .1 .1 .1 .1 .1 .1 .1 .1 .1 .0
-
-same-length-9 : tie.Need-same-length-9
-same-length-9 c = driven c .drive .kept .1 .1 .1 .1 .1 .1 .1 .1 .1 .1 .1 .1 .1 .1 .1 .1 .1 .1 .1 .1 .1 .0
+exec-requires : tie.Need-exec-requires
+exec-requires c κs =
+    let b = c .before .before .before .before .before .before .before .before .before .before .before .before .before .before .before .before .before .before .before .before .before .before .before .before .before .before .before in
+    let f = first b in
+    starting (start (cut f) .pre) (cut-so f) (b .begin .ensures) (f .first-run .ensures) (b .begin .kept .1 .1 .0)
 
 returns : tie.Need-returns
-returns c = λ x. entered _ _ _ _ _ _ _ _ _ x _ (first (driven c) .first-run .ensures) _ _ (driven c .drive .ensures)
+returns c =
+    let end = finished c in
+    let x = ran end in
+    let b = begun x in
+    let f = first b in
+    λ o. entered o (cut-so f) (b .begin .ensures) (f .first-run .ensures) (b .begin .kept .1 .1 .0) (x .exec .ensures) (end .finish .ensures) (sizes-run x)
 
 pub enter-spec : {M : Type 1} → statement M
 enter-spec =
     tie.close
     (tie.spec
-    add-code-end
-    mul-consts-end
-    add-consts-end
-    mul-reads-end
-    add-reads-end
-    mul-writes-end
-    add-writes-end
-    mul-keyed-reads-end
-    add-keyed-reads-end
-    mul-keyed-writes-end
-    add-keyed-writes-end
+    (λ c κs. within (start c .pre) .code)
+    (λ c κs. within (start (c .before) .pre) .consts)
+    (λ c κs. within (start (c .before .before) .pre) .reads)
+    (λ c κs. within (start (c .before .before .before) .pre) .writes)
+    (λ c κs. within (start (c .before .before .before .before) .pre) .keyed-reads)
+    (λ c κs. within (start (c .before .before .before .before .before) .pre) .keyed-writes)
     (λ c κs. search needs)
-    (λ c. search needs)
-    (λ c. search needs)
-    part-drive-end
-    (λ c. search needs)
-    (λ c. search needs)
-    part-drive-end-2
-    (λ c. search needs)
-    (λ c. search needs)
-    part-drive-end-3
-    (λ c. search needs)
-    (λ c. search needs)
-    part-drive-end-4
-    (λ c. search needs)
-    (λ c. search needs)
-    part-drive-end-5
-    (λ c. search needs)
-    (λ c. search needs)
-    part-drive-end-6
-    drive-requires
-    same-length
-    same-length-2
-    same-length-3
-    same-length-4
-    same-length-5
-    same-length-6
-    same-length-7
-    same-length-8
-    same-length-9
+    (λ c κs. search needs)
+    exec-requires
+    (λ c κs. search needs)
+    (λ c. sizes-end (finished c) .run .memory)
+    (λ c. sizes-end (finished c) .run .stack)
+    (λ c. sizes-end (finished c) .starts)
+    (λ c. sizes-end (finished c) .run .changes)
+    (λ c. sizes-end (finished c) .run .fetched)
+    (λ c. sizes-end (finished c) .run .readable)
+    (λ c. sizes-end (finished c) .run .writable)
+    (λ c. sizes-end (finished c) .run .paid)
+    (λ c. sizes-end (finished c) .run .log)
     returns)

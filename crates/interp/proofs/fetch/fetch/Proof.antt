@@ -3,7 +3,7 @@ use borrow.Author.Needs.{needs}
 use mathlib.Core.Path.{_≡_, sym, _∙_}
 use Prim.Native.Nat.{ℕ}
 use native.Mathlib.Omega.{arith}
-use Rattle.isa.specs.RoundTrip.{decode-place}
+use Rattle.isa.specs.RoundTripTheorems.{decode-place}
 use Rattle.interp.specs.FetchLaws.{fetch-refused, fetch-on}
 use Rattle.interp.proofs.fetch.fetch.Statement.{statement}
 use Rattle.interp.proofs.fetch.fetch.Tie as tie

@@ -22,7 +22,7 @@ returns c =
     let tested = first-wiped .before .before in
     let w = zeroed (tested .before) .wipe-work .ensures in
     finish-faults _ _ _ _ (tested .if1 .taken) (c .refused .ensures)
-    (λ i. lentAs (w .memory-is i) (w .stack-is i) (tables.bufs (first-wiped .wipe .ensures i) (w .fetched-is i) (w .readable-is i) (w .writable-is i) (w .paid-is i)) (last-wiped .wipe2 .ensures i) (w .map-is i))
+    (λ i. lentAs (w .memory-is i) (w .stack-is i) (tables.keyBufs (first-wiped .wipe .ensures i) (w .fetched-is i) (w .readable-is i) (w .writable-is i) (w .paid-is i)) (last-wiped .wipe2 .ensures i) (w .starts-is i))
 
 returns-2 : tie.Need-returns-2
 returns-2 c =
@@ -32,7 +32,7 @@ returns-2 c =
     let start = known .before .before .before .before in
     let w = wiped .wipe-work .ensures in
     finish-halts _ _ _ _ (tested .if1 .left) (λ k. known .slice-known4 .given k .fits) (c .halted .ensures)
-    (λ i. lentAs (w .memory-is i) (w .stack-is i) (tables.bufs (now (start .args .changes)) (w .fetched-is i) (w .readable-is i) (w .writable-is i) (w .paid-is i)) (now (start .args .log)) (w .map-is i))
+    (λ i. lentAs (w .memory-is i) (w .stack-is i) (tables.keyBufs (now (start .args .changes)) (w .fetched-is i) (w .readable-is i) (w .writable-is i) (w .paid-is i)) (now (start .args .log)) (w .starts-is i))
 
 pub finish-spec : {M : Type 1} → statement M
 finish-spec =

@@ -8,7 +8,8 @@ returns : tie.Need-returns
 returns c = rw (c .set .ensures) (operate-put _ _ _ _ (c .before .before .before .before .operate .ensures) _ _ (c .before .before .o .given .1))
 
 returns-2 : tie.Need-returns-2
-returns-2 c = rw (c .set-wide .ensures) (operate-wide _ _ _ _ (c .before .before .before .before .operate .ensures) _ _ _ (search needs) (c .before .before .o2 .given .1))
+returns-2 c =
+    rw (c .set-wide .ensures) (operate-wide _ _ _ _ (c .before .before .before .before .operate .ensures) _ _ _ (search needs) (c .before .before .o2 .given .1))
 
 returns-3 : tie.Need-returns-3
 returns-3 c = rw (c .stop .ensures) (operate-fault _ _ _ _ (c .before .before .before .before .operate .ensures) _ (c .before .before .o3 .given .1))

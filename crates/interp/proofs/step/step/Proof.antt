@@ -22,7 +22,7 @@ access-requires c κs =
 post-requires : tie.Need-post-requires
 post-requires c κs =
     let start = c .before .before .before .before .before .before .before .before .before .before .before .before .before .before .before .before .before .before .before .before .before .before .before .before .before in
-    let x = start .pre .sound in (x .logged .within, x .counted .few, x .counted .posted, x .sized .memory)
+    let x = start .pre .sound in (x .logged .within, x .counted .no-more, x .counted .posted, x .sized .memory)
 
 hash-requires : tie.Need-hash-requires
 hash-requires c κs =

@@ -6,7 +6,7 @@ use borrow.Author.Needs.{needs}
 use Rattle.isa.specs.declared.codec.FirstBad.the-variants.{NoneBad}
 use Rattle.isa.specs.Forms.{formOf}
 use Rattle.isa.specs.Codec.{firstBad}
-use Rattle.isa.specs.TableLaws.{Small, small}
+use Rattle.isa.specs.TableLaws.{RowBounds, row-bounds}
 use Rattle.isa.specs.EncodeLaws.{regs-stand, encoded-bad, encoded-no-room, encoded-done}
 use Rattle.isa.proofs.codec.encode.Statement.{statement}
 use Rattle.isa.proofs.codec.encode.Tie as tie
@@ -15,8 +15,8 @@ use Rattle.isa.proofs.codec.encode.Tie as tie
 no-bad : (c : tie.After-enum-told) → firstBad (formOf (c .before .before .before .before .args .i) .regs) ≡ NoneBad
 no-bad c = sym (c .before .before .bad-register .ensures) ∙ c .enum-told .given .1
 
-row-small : (c : tie.After-row) → Small (c .before .before .parts-of .result .0)
-row-small c = small (c .before .before .parts-of .result .0)
+row-small : (c : tie.After-row) → RowBounds (c .before .before .parts-of .result .0)
+row-small c = row-bounds (c .before .before .parts-of .result .0)
 
 returns : tie.Need-returns
 returns c =

@@ -13,10 +13,10 @@ use Rattle.words.specs.Bytes.{num, numFrom}
 use Rattle.isa.specs.declared.opcode.OpCode.{OpCode}
 use Rattle.isa.specs.declared.opcode.OpCode.the-variants.{Ldc, Ldi}
 use Rattle.isa.specs.Table.{rowOf}
-use Rattle.isa.specs.TableLaws.{small}
+use Rattle.isa.specs.TableLaws.{row-bounds}
 use Rattle.isa.specs.Forms.{instrOf}
-use Rattle.isa.specs.Told.{instr-told, cut-told}
-use Rattle.isa.specs.Computed.{from}
+use Rattle.isa.specs.ToldLaws.{instr-told, cut-told}
+use Rattle.isa.specs.ComputedLaws.{from}
 use Rattle.isa.specs.Codec.{refusalIn}
 use Rattle.isa.specs.DecodeLaws.{read-within}
 use Rattle.isa.specs.Shapes.{Shape, isNone}
@@ -28,7 +28,8 @@ abbrev start : tie.After-shared-slice-known2 → tie.Start
 start c = c .before .before .before .before
 
 -- in the arm of a width: the opcode's shape, and that the operands stand
-arm : (c : tie.After-shared-slice-known2) (w : ℕ) → start c .args .w ≡ w → Shape (start c .args .op) 1 w × (isNone (refusalIn 1 w (now (start c .args .s))) ≡ true)
+arm : (c : tie.After-shared-slice-known2) (w : ℕ) → start c .args .w ≡ w →
+    Shape (start c .args .op) 1 w × (isNone (refusalIn 1 w (now (start c .args .s))) ≡ true)
 arm c w e =
     let b = start c in
     subst (λ (v : ℕ). Shape (b .args .op) 1 v × (isNone (refusalIn 1 v (now (b .args .s))) ≡ true)) e
@@ -49,7 +50,7 @@ within c w v e k =
     read-within s 1 w v (stands-room 1 w s (arm c w e .1)) (λ j. c .before .before .before .shared-slice-known .given j .fits) k
 
 stands-requires : tie.Need-stands-requires
-stands-requires c κs = omega (arith, c .before .pre, small (c .before .args .op) .length)
+stands-requires c κs = omega (arith, c .before .pre, row-bounds (c .before .args .op) .length)
 
 returns : tie.Need-returns
 returns c =

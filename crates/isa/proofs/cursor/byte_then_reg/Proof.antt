@@ -40,13 +40,13 @@ use denote.Triple.Table.{entered, cited}
 use denote.Triple.Walked.{says, Stays, stay-none, stay-none-slice, walkOf, goes-none, goes-none-slice, AllGo, Walks, ends-at, walked, walk-meets}
 use denote.Exit.{yes}
 use Rattle.isa.specs.Reads.{byteRead, regRead}
-use Rattle.isa.specs.Cursor.{cursorAt, Reading, byteThenReg}
+use Rattle.isa.specs.Cursor.{cursorAt, CursorReads, byteThenReg}
 use Rattle.isa.specs.CursorLaws.{twoReads, two-reads}
-use Rattle.isa.specs.declared.codec.Got.{Got}
+use Rattle.isa.specs.declared.codec.GotByte.{GotByte}
 use Rattle.isa.specs.declared.cursor.Cursor.{Cursor}
 use Rattle.isa.specs.declared.cursor.TwoReads.{TwoReads}
-use Rattle.isa.proofs.codec.Got as G
-use Rattle.isa.proofs.codec.Got.Laws as G′
+use Rattle.isa.proofs.codec.GotByte as G
+use Rattle.isa.proofs.codec.GotByte.Laws as G′
 use Rattle.isa.proofs.cursor.TwoReads as S
 use Rattle.isa.proofs.cursor.TwoReads.Laws as S′
 use Rattle.isa.proofs.cursor.Cursor as T
@@ -73,13 +73,13 @@ abbrev stayed : Stays (both.ended .signature .params) (both.ended .kept)
 stayed = (stay-none-slice (0 ∷ []) tt (plain (λ _. u8)) yes, (stay-none (λ _. usize) yes, tt))
 
 -- what was got and an answer as machine values
-abbrev gotv : Got → Val
+abbrev gotv : GotByte → Val
 gotv = EL.val G.the-type G′.the-laws
 
 abbrev whole-of : TwoReads → Val
 whole-of r = only (LL.vals S.the-type S′.the-laws r)
 
-is-got : (g : Got) (v : Val) → Is G.the-row g (v ∷ []) → Is G.the-row g (gotv g ∷ [])
+is-got : (g : GotByte) (v : Val) → Is G.the-row g (v ∷ []) → Is G.the-row g (gotv g ∷ [])
 is-got g v is = subst (λ (vs : List Val). Is G.the-row g vs) (EL.tells G.the-type G′.the-laws g (v ∷ []) is) is
 
 module _ {M : Type 1} (𝓤 : URA M) (H : Heap 𝓤) (A : Atoms 𝓤) (at-mem : Memory → SProp 𝓤) (run : Routine → Fun 𝓤) where
@@ -104,7 +104,8 @@ module _ {M : Type 1} (𝓤 : URA M) (H : Heap 𝓤) (A : Atoms 𝓤) (W : Given
   abbrev Post : Val → SProp 𝓤
   Post = walkOf 𝓤 H A both.ended stayed (both.clauses 𝓤 H A at-mem run) .post (((κ, tt), (q, tt), tt, x, at), tt)
 
-  exits : (r : TwoReads) → r ≡ byteThenReg (s .now) n → ent 𝓤 (sep 𝓤 (A .lft κ q) (sep 𝓤 (sem 𝓤 H A Own) (sem 𝓤 H A (S.the-row .own r (whole-of r ∷ []))))) (Post (whole-of r))
+  exits : (r : TwoReads) → r ≡ byteThenReg (s .now) n →
+      ent 𝓤 (sep 𝓤 (A .lft κ q) (sep 𝓤 (sem 𝓤 H A Own) (sem 𝓤 H A (S.the-row .own r (whole-of r ∷ []))))) (Post (whole-of r))
   exits r e =
       qed W (‵ (flft κ q) ∷ ‵ Own ∷ ‵ (S.the-row .own r (whole-of r ∷ [])) ∷ []) ∵
       suffices ! _ (ends-at 𝓤 H A both.ended stayed (both.clauses 𝓤 H A at-mem run) W (((κ, tt), (q, tt), tt, x, at), tt) (whole-of r) r (tt, (tt, tt)) (tt, (tt, tt))) $ says ! e $
@@ -125,7 +126,8 @@ module _ {M : Type 1} (𝓤 : URA M) (H : Heap 𝓤) (A : Atoms 𝓤) (W : Given
   new-said c = exE 𝓤 _ (λ ws. snd∗ 𝓤 (sem 𝓤 H A (lasts new.ended (κ, tt) x ws)) (fact 𝓤 (c ≡ cursorAt s n)))
 
   module _ (C : Calls 𝓤 H) (Λ : Loops 𝓤 H) (fm : FmC 𝓤 H (W .laws) C) (known-new : Triple 𝓤 (C #new) (New 𝓤 H A at-mem run)) (known-byte : Triple 𝓤 (C #byte) (Lent byteRead 𝓤 H A)) (known-reg : Triple 𝓤 (C #reg) (Lent regRead 𝓤 H A)) where
-    walk : Is (ShrSlice (named 0) κ u8) s (part ∷ []) → ent 𝓤 (onEntry 𝓤 H A both.signature (κ, tt) (q, tt) x at) (WpFn 𝓤 H C Λ code.function (part ∷ vint w64 n ∷ []) Post)
+    walk : Is (ShrSlice (named 0) κ u8) s (part ∷ []) →
+        ent 𝓤 (onEntry 𝓤 H A both.signature (κ, tt) (q, tt) x at) (WpFn 𝓤 H C Λ code.function (part ∷ vint w64 n ∷ []) Post)
     walk p =
         qed W ((‵ (flft κ q) ⊛ ‵ ftrue) ∷ ‵ (owns (ShrSlice (named 0) κ u8 ∷ usize ∷ []) x at) ∷ []) ∵ move ! (1 ∷ []) $ fsplit ! $ keep ! (2 ∷ 0 ∷ []) $
         enter ! C Λ code.function (part ∷ vint w64 n ∷ []) _ $
@@ -148,9 +150,9 @@ module _ {M : Type 1} (𝓤 : URA M) (H : Heap 𝓤) (A : Atoms 𝓤) (W : Given
         -- [the token; what the Cursor owns; what the slice owns; room for _9; …; _8; …; _7; …; _6; …; _5; …; _4; …; _3; …; _2; …; _1; …; _0; …]
         move ! (15 ∷ 1 ∷ 0 ∷ []) $ use3 W (later (some (λ (t : Loan κ q l₃). raw (Lent byteRead 𝓤 H A .pre (passed κ q l₃ 𝓤 H A byteRead t c)) ⊛ raw (Kept κ q l₃ 𝓤 H A t)))) (lend κ q l₃ 𝓤 H A W byteRead c) $ await ! tt $ pick ! (λ t. split ! $
         calls-at ! fm (Lent byteRead 𝓤 H A) known-byte (passed κ q l₃ 𝓤 H A byteRead t c) (and-then ! (load ! (from ! (stop !)) (look ! 7 refl)) (no-more !)) (λ v.
-        use1 W (later (some (λ (g : Got). ((‵ (flft (t .0 ∷ κ) (PosShare·left q)) ⊛ ‵ (flft κ (PosShare·right q)) ⊛ ‵ ftrue) ⊛ ‵ (G.the-row .own g (v ∷ []))) ⊛ raw (ensured 𝓤 H A byte.ended (readClauses byteRead 𝓤) (t .0 ∷ κ, (κ, tt)) (lentAt κ q l₃ t c, tt) tt g)))) (id⊢ 𝓤 _) $ await ! tt $ pick ! (λ g.
-        split ! $ move ! (1 ∷ []) $ use1 W (some (λ (zs : Cursor × Unit {0}). ‵ (lasts byte.ended (t .0 ∷ κ, (κ, tt)) (lentAt κ q l₃ t c, tt) zs) ⊛ raw (fact 𝓤 (Reading byteRead c (zs .0) g)))) (id⊢ 𝓤 _) $ pick ! (λ zs.
-        split ! $ move ! (1 ∷ []) $ heard ! (Reading byteRead c (zs .0) g) (λ first. fsplit ! $ move ! (2 ∷ []) $ split ! $
+        use1 W (later (some (λ (g : GotByte). ((‵ (flft (t .0 ∷ κ) (PosShare·left q)) ⊛ ‵ (flft κ (PosShare·right q)) ⊛ ‵ ftrue) ⊛ ‵ (G.the-row .own g (v ∷ []))) ⊛ raw (ensured 𝓤 H A byte.ended (readClauses byteRead 𝓤) (t .0 ∷ κ, (κ, tt)) (lentAt κ q l₃ t c, tt) tt g)))) (id⊢ 𝓤 _) $ await ! tt $ pick ! (λ g.
+        split ! $ move ! (1 ∷ []) $ use1 W (some (λ (zs : Cursor × Unit {0}). ‵ (lasts byte.ended (t .0 ∷ κ, (κ, tt)) (lentAt κ q l₃ t c, tt) zs) ⊛ raw (fact 𝓤 (CursorReads byteRead c (zs .0) g)))) (id⊢ 𝓤 _) $ pick ! (λ zs.
+        split ! $ move ! (1 ∷ []) $ heard ! (CursorReads byteRead c (zs .0) g) (λ first. fsplit ! $ move ! (2 ∷ []) $ split ! $
         -- [the tokens; what was got; the last Cursor; …; what was kept; what the slice owns; room for _9; …]
         move ! (0 ∷ 2 ∷ 4 ∷ []) $ use3 W (later (‵ (Cell l₃ (zs .0)) ⊛ ‵ (Owns κ (zs .0)) ⊛ ‵ (flft κ q))) (back κ q l₃ 𝓤 H A W t (zs .0)) $ await ! tt $ split ! $ move ! (1 ∷ []) $ split ! $
         move ! (3 ∷ []) $ peeks ! G.the-row (Is G.the-row) (shows 𝓤 H A G.the-row) g (v ∷ []) (λ ig.
@@ -159,9 +161,9 @@ module _ {M : Type 1} (𝓤 : URA M) (H : Heap 𝓤) (A : Atoms 𝓤) (W : Given
         assigns ! (addr ! (from ! (stop !))) (from ! (stop !)) (init ! 7 refl (tt, tt)) $
         move ! (2 ∷ 0 ∷ 1 ∷ []) $ use3 W (later (some (λ (t : Loan κ q l₃). raw (Lent regRead 𝓤 H A .pre (passed κ q l₃ 𝓤 H A regRead t (zs .0))) ⊛ raw (Kept κ q l₃ 𝓤 H A t)))) (lend κ q l₃ 𝓤 H A W regRead (zs .0)) $ await ! tt $ pick ! (λ t′. split ! $
         calls-at ! fm (Lent regRead 𝓤 H A) known-reg (passed κ q l₃ 𝓤 H A regRead t′ (zs .0)) (and-then ! (load ! (from ! (stop !)) (look ! 6 refl)) (no-more !)) (λ v′.
-        use1 W (later (some (λ (g : Got). ((‵ (flft (t′ .0 ∷ κ) (PosShare·left q)) ⊛ ‵ (flft κ (PosShare·right q)) ⊛ ‵ ftrue) ⊛ ‵ (G.the-row .own g (v′ ∷ []))) ⊛ raw (ensured 𝓤 H A byte.ended (readClauses regRead 𝓤) (t′ .0 ∷ κ, (κ, tt)) (lentAt κ q l₃ t′ (zs .0), tt) tt g)))) (id⊢ 𝓤 _) $ await ! tt $ pick ! (λ g′.
-        split ! $ move ! (1 ∷ []) $ use1 W (some (λ (zs′ : Cursor × Unit {0}). ‵ (lasts byte.ended (t′ .0 ∷ κ, (κ, tt)) (lentAt κ q l₃ t′ (zs .0), tt) zs′) ⊛ raw (fact 𝓤 (Reading regRead (zs .0) (zs′ .0) g′)))) (id⊢ 𝓤 _) $ pick ! (λ zs′.
-        split ! $ move ! (1 ∷ []) $ heard ! (Reading regRead (zs .0) (zs′ .0) g′) (λ second. fsplit ! $ move ! (2 ∷ []) $ split ! $
+        use1 W (later (some (λ (g : GotByte). ((‵ (flft (t′ .0 ∷ κ) (PosShare·left q)) ⊛ ‵ (flft κ (PosShare·right q)) ⊛ ‵ ftrue) ⊛ ‵ (G.the-row .own g (v′ ∷ []))) ⊛ raw (ensured 𝓤 H A byte.ended (readClauses regRead 𝓤) (t′ .0 ∷ κ, (κ, tt)) (lentAt κ q l₃ t′ (zs .0), tt) tt g)))) (id⊢ 𝓤 _) $ await ! tt $ pick ! (λ g′.
+        split ! $ move ! (1 ∷ []) $ use1 W (some (λ (zs′ : Cursor × Unit {0}). ‵ (lasts byte.ended (t′ .0 ∷ κ, (κ, tt)) (lentAt κ q l₃ t′ (zs .0), tt) zs′) ⊛ raw (fact 𝓤 (CursorReads regRead (zs .0) (zs′ .0) g′)))) (id⊢ 𝓤 _) $ pick ! (λ zs′.
+        split ! $ move ! (1 ∷ []) $ heard ! (CursorReads regRead (zs .0) (zs′ .0) g′) (λ second. fsplit ! $ move ! (2 ∷ []) $ split ! $
         move ! (0 ∷ 2 ∷ 4 ∷ []) $ use3 W (later (‵ (Cell l₃ (zs′ .0)) ⊛ ‵ (Owns κ (zs′ .0)) ⊛ ‵ (flft κ q))) (back κ q l₃ 𝓤 H A W t′ (zs′ .0)) $ await ! tt $ split ! $ move ! (1 ∷ []) $ split ! $
         move ! (3 ∷ []) $ peeks ! G.the-row (Is G.the-row) (shows 𝓤 H A G.the-row) g′ (v′ ∷ []) (λ ig′.
         land ! (from ! (stop !)) (init ! 15 refl (EL.lawful G.the-type G′.the-laws 𝓤 H A W tt .typed g′ _ ig′ .0)) $ rewrite ! 15 (λ (w : Val). ‵ (fat fullShare G′.mir l₅ 0 w)) (ap only (EL.tells G.the-type G′.the-laws g′ (v′ ∷ []) ig′)) refl $ drop ! $
@@ -179,9 +181,11 @@ module _ {M : Type 1} (𝓤 : URA M) (H : Heap 𝓤) (A : Atoms 𝓤) (W : Given
         keep ! (1 ∷ 4 ∷ 0 ∷ []) $ by ! (exits (twoReads g g′ (zs′ .0 .at)) (two-reads s n c (zs .0) (zs′ .0) g g′ made first second)))))))))))))))))))))))))))))))
 
 module _ {M : Type 1} (𝓤 : URA M) (H : Heap 𝓤) (A : Atoms 𝓤) (W : Given 𝓤 H A) (at-mem : Memory → SProp 𝓤) (run : Routine → Fun 𝓤) where
-  both-walks : (C : Calls 𝓤 H) (Λ : Loops 𝓤 H) → FmC 𝓤 H (W .laws) C → Triple 𝓤 (C #new) (New 𝓤 H A at-mem run) → Triple 𝓤 (C #byte) (Lent byteRead 𝓤 H A) → Triple 𝓤 (C #reg) (Lent regRead 𝓤 H A)
+  both-walks : (C : Calls 𝓤 H) (Λ : Loops 𝓤 H) → FmC 𝓤 H (W .laws) C → Triple 𝓤 (C #new) (New 𝓤 H A at-mem run) → Triple 𝓤 (C #byte) (Lent byteRead 𝓤 H A) →
+      Triple 𝓤 (C #reg) (Lent regRead 𝓤 H A)
       → Walks 𝓤 H A both.ended stayed (WpFn 𝓤 H C Λ code.function) (both.clauses 𝓤 H A at-mem run)
-  both-walks C Λ fm known-new known-byte known-reg = walked 𝓤 H A both.ended stayed (both.clauses 𝓤 H A at-mem run) (WpFn 𝓤 H C Λ code.function) (λ κs. (slice-vals, (uint-vals w64, tt))) (λ κs. (shr-slice-tells (named 0) (κs .0) u8, (uint-tells w64, tt)))
+  both-walks C Λ fm known-new known-byte known-reg =
+      walked 𝓤 H A both.ended stayed (both.clauses 𝓤 H A at-mem run) (WpFn 𝓤 H C Λ code.function) (λ κs. (slice-vals, (uint-vals w64, tt))) (λ κs. (shr-slice-tells (named 0) (κs .0) u8, (uint-tells w64, tt)))
       (λ κs qs bounds a g are. via 𝓤 _ (fst∗ 𝓤 _ (emp 𝓤)) (walk 𝓤 H A W at-mem run (κs .0) (qs .0) (a .0) (a .1 .0) (are .1 .0 .1) C Λ fm known-new known-byte known-reg (are .0)))
 
   goes : AllGo 𝓤 H A W 1 (both.signature .params) (both.ended .kept) stayed

@@ -4,7 +4,7 @@ use borrow.Author.Needs.{needs}
 use Rattle.isa.specs.declared.opcode.OpCode.the-variants.{Call}
 use Rattle.isa.specs.Table.{rowOf}
 use Rattle.isa.specs.Forms.{instrOf}
-use Rattle.isa.specs.Told.{cut-told}
+use Rattle.isa.specs.ToldLaws.{cut-told}
 use Rattle.isa.proofs.instr.Last.{last}
 use Rattle.isa.proofs.instr.jump.Statement.{statement}
 use Rattle.isa.proofs.instr.jump.Tie as tie

@@ -4,7 +4,7 @@ use borrow.Author.Needs.{needs}
 use Rattle.isa.specs.declared.opcode.OpCode.the-variants.{RemW}
 use Rattle.isa.specs.Table.{rowOf}
 use Rattle.isa.specs.Forms.{instrOf}
-use Rattle.isa.specs.Told.{instr-told}
+use Rattle.isa.specs.ToldLaws.{instr-told}
 use Rattle.isa.proofs.instr.Last.{last}
 use Rattle.isa.proofs.instr.with_six.Statement.{statement}
 use Rattle.isa.proofs.instr.with_six.Tie as tie

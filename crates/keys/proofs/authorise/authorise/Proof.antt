@@ -1,7 +1,7 @@
 -- `keys::authorise::authorise` meets its contract: two keys put in are what the rule leaves. Assumes nothing.
 use borrow.Author.Needs.{needs}
 use Rattle.words.specs.Bytes.{num}
-use Rattle.keys.specs.Lent.{bufs}
+use Rattle.keys.specs.Lent.{keyBufs}
 use Rattle.keys.specs.KeyLaws.{authorised-so}
 use Rattle.keys.proofs.authorise.authorise.Statement.{statement}
 use Rattle.keys.proofs.authorise.authorise.Tie as tie
@@ -15,7 +15,7 @@ returns c =
     let reads = writes .before .before .before .before in
     let a = start reads .args in
     λ l g base ch fe pd ok q.
-    authorised-so l g (a .c) (bufs ch fe (a .readable .now) (a .writable .now) pd) ok base (num (a .key .now)) (a .plan) q
+    authorised-so l g (a .c) (keyBufs ch fe (a .readable .now) (a .writable .now) pd) ok base (num (a .key .now)) (a .plan) q
     _ _ _ _ (reads .add-if .ensures) (writes .add-if2 .ensures)
 
 pub authorise-spec : {M : Type 1} → statement M

@@ -1,7 +1,7 @@
 -- `keys::authorise::plan_authorise` meets its contract: each part is what its function ensures. Assumes nothing.
 use borrow.Author.Needs.{needs}
 use Rattle.words.specs.Bytes.{num}
-use Rattle.keys.specs.Lent.{bufs, given}
+use Rattle.keys.specs.Lent.{keyBufs, given}
 use Rattle.keys.specs.KeyLaws.{key-planned}
 use Rattle.keys.proofs.authorise.plan_authorise.Statement.{statement}
 use Rattle.keys.proofs.authorise.plan_authorise.Tie as tie
@@ -16,7 +16,7 @@ returns c =
     let write = written .before .before in
     let a = start write .args in
     λ l rd wr st ld ch fe pd ok.
-    key-planned l (given rd wr (a .kreads .now) (a .kwrites .now) st ld) (a .c) (bufs ch fe (a .readable .now) (a .writable .now) pd)
+    key-planned l (given rd wr (a .keyed-reads .now) (a .keyed-writes .now) st ld) (a .c) (keyBufs ch fe (a .readable .now) (a .writable .now) pd)
     ok (a .base) (num (a .key .now))
     _ _ _ _ _ _ _ (write .listed .ensures) (written .before .is-keyed .ensures) (written .has .ensures) (price .before .has2 .ensures)
     (price .key-price .ensures) (c .before .key-bytes .ensures) (c .key-room .ensures)

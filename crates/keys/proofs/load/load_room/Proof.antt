@@ -2,7 +2,7 @@
 use mathlib.Core.Path.{_∙_}
 use borrow.Author.Needs.{needs}
 use Rattle.words.specs.Bytes.{num}
-use Rattle.keys.specs.Lent.{bufs}
+use Rattle.keys.specs.Lent.{keyBufs}
 use Rattle.keys.specs.LoadLaws.{load-fits}
 use Rattle.keys.proofs.load.load_room.Statement.{statement}
 use Rattle.keys.proofs.load.load_room.Tie as tie
@@ -10,7 +10,7 @@ use Rattle.keys.proofs.load.load_room.Tie as tie
 returns : tie.Need-returns
 returns c =
     let a = c .before .before .before .args in
-    λ l g ch mr mw pd ok q. c .room .ensures (a .seen .value) ∙ load-fits l g (a .c) (bufs ch (a .fetched .now) mr mw pd) ok (num (a .key .now)) (a .seen) q
+    λ l g ch mr mw pd ok q. c .room .ensures (a .seen .value) ∙ load-fits l g (a .c) (keyBufs ch (a .fetched .now) mr mw pd) ok (num (a .key .now)) (a .seen) q
 
 pub load-room-spec : {M : Type 1} → statement M
 load-room-spec = tie.close (tie.spec (λ c κs. search needs) returns)

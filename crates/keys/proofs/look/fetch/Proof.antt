@@ -9,7 +9,7 @@ use Rattle.keys.proofs.look.fetch.Tie as tie
 
 returns : tie.Need-returns
 unfolding fromLoader
-returns c = rw (not-true (c .before .before .before .args .present) (c .if1 .taken))
+returns c = rw (not-true (c .before .before .before .args .has-loader) (c .if1 .taken))
 
 get-requires : tie.Need-get-requires
 get-requires c κs = let start = c .before .before .before in (start .pre .0 (not-false _ (c .if1 .left)), start .pre .1)
@@ -19,14 +19,14 @@ unfolding fromLoader orZero
 returns-2 c =
     let got = c .before .before .before in
     let start = got .before .before .before .before in
-    rw (not-false (start .args .present) (got .before .if1 .left), got-some _ _ (sym (got .get .ensures) ∙ c .before .d .given .1))
+    rw (not-false (start .args .has-loader) (got .before .if1 .left), got-some _ _ (sym (got .get .ensures) ∙ c .before .d .given .1))
 
 returns-3 : tie.Need-returns-3
 unfolding fromLoader orZero
 returns-3 c =
     let got = c .before .before in
     let start = got .before .before .before .before in
-    rw (not-false (start .args .present) (got .before .if1 .left), got-none _ (sym (got .get .ensures) ∙ c .enum-told .given .1))
+    rw (not-false (start .args .has-loader) (got .before .if1 .left), got-none _ (sym (got .get .ensures) ∙ c .enum-told .given .1))
 
 pub fetch-spec : {M : Type 1} → statement M
 fetch-spec =

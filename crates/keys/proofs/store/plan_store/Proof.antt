@@ -1,7 +1,7 @@
 -- `keys::store::plan_store` meets its contract: each part is what its function ensures. Assumes nothing.
 use borrow.Author.Needs.{needs}
 use Rattle.words.specs.Bytes.{num}
-use Rattle.keys.specs.Lent.{bufs, given}
+use Rattle.keys.specs.Lent.{keyBufs, given}
 use Rattle.keys.specs.StoreLaws.{planned}
 use Rattle.keys.proofs.store.plan_store.Statement.{statement}
 use Rattle.keys.proofs.store.plan_store.Tie as tie
@@ -17,7 +17,7 @@ returns c =
     let a = start look .args in
     λ rd wr kr kw mr ok.
     planned (a .lent) (given rd wr kr kw (a .store .now) (a .loader .now)) (a .c)
-    (bufs (a .changes .now) (a .fetched .now) mr (a .writable .now) (a .paid .now)) ok (num (a .key .now)) (a .v)
+    (keyBufs (a .changes .now) (a .fetched .now) mr (a .writable .now) (a .paid .now)) ok (num (a .key .now)) (a .v)
     _ _ _ _ (look .look-up .ensures) (fresh .pays-fresh .ensures) (price .store-price .ensures) (c .store-room .ensures (a .v))
 
 pub plan-store-spec : {M : Type 1} → statement M

@@ -1,7 +1,7 @@
 -- `keys::store::store` meets its contract: three rows put in are what the rule leaves. Assumes nothing.
 use borrow.Author.Needs.{needs}
 use Rattle.words.specs.Bytes.{num}
-use Rattle.keys.specs.Lent.{bufs}
+use Rattle.keys.specs.Lent.{keyBufs}
 use Rattle.keys.specs.StoreLaws.{stored-so}
 use Rattle.keys.proofs.store.store.Statement.{statement}
 use Rattle.keys.proofs.store.store.Tie as tie
@@ -19,7 +19,7 @@ returns c =
     let changes = fetched .before .before .before .before in
     let a = start changes .args in
     λ l g mr mw ok q.
-    stored-so l g (a .c) (bufs (a .changes .now) (a .fetched .now) mr mw (a .paid .now)) ok (num (a .key .now)) (a .v) (a .plan) q
+    stored-so l g (a .c) (keyBufs (a .changes .now) (a .fetched .now) mr mw (a .paid .now)) ok (num (a .key .now)) (a .v) (a .plan) q
     _ _ _ _ _ _ (changes .put-if .ensures) (fetched .put-if2 .ensures) (paid .add-if .ensures)
 
 pub store-spec : {M : Type 1} → statement M

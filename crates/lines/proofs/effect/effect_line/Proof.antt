@@ -7,7 +7,7 @@ use denote.Ref.{now}
 use lib.ListN.{length, take, drop}
 use borrow.Author.Needs.{needs}
 use Rattle.words.specs.Laid.{Laid}
-use Rattle.effects.specs.Log.{Effect, Small, logOf}
+use Rattle.effects.specs.Log.{Effect, FitTrailers, logOf}
 use Rattle.effects.specs.declared.trailer.Trailer.{Trailer}
 use Rattle.lines.specs.EffectLines.{lineWithin}
 use Rattle.lines.specs.EffectLaws.{part-length, line-short, line-transfer, line-event}
@@ -25,7 +25,7 @@ trailer read = read .record-ending-at .result
 
 -- too short an output is left as it was
 nothing : (read : Read) → length (now (start read .args .out)) < trailer read .length * 2 + 80 →
-    (e : Effect) (es : List Effect) → Small (e ∷ es) → take (start read .args .at) (now (start read .args .log)) ≡ logOf (e ∷ es) →
+    (e : Effect) (es : List Effect) → FitTrailers (e ∷ es) → take (start read .args .at) (now (start read .args .log)) ≡ logOf (e ∷ es) →
     Laid (now (start read .args .out)) 0 (lineWithin (length (now (start read .args .out))) e) (now (start read .args .out)) 0
 nothing read =
     let a = start read .args in

@@ -6,9 +6,9 @@ use borrow.Author.Needs.{needs}
 use borrow.Author.Tests.{not-true, not-false}
 use Rattle.words.specs.Choice.{pick}
 use Rattle.words.specs.Refusals.{refusal}
-use Rattle.opening.specs.Parts.{Begins}
+use Rattle.opening.specs.Parts.{OpensAt}
 use Rattle.opening.specs.OpenLaws.{many-slots, too-dear, at-offset}
-use Rattle.opening.specs.declared.open.Opening.the-variants.{Done, Refused}
+use Rattle.opening.specs.declared.open.OpenAnswer.the-variants.{Done, Refused}
 use Rattle.opening.proofs.entry.begin.Statement.{statement}
 use Rattle.opening.proofs.entry.begin.Tie as tie
 
@@ -27,7 +27,7 @@ start c = c .before .before .before .before .before .before .before
 -- the offset decides
 decided : (c : tie.After-is-start) (t : Bool) → c .is-start .result ≡ t →
     let a = start c .args in
-    Begins (a .call) (a .l) (a .lent) (a .e) (now (a .code))
+    OpensAt (a .call) (a .l) (a .lent) (a .e) (now (a .code))
     (pick t (Done (record { layout = a .l; entry = a .e; lent = a .lent; used = c .before .before .before .dispatch .result })) (Refused (refusal 14 0)))
 decided c t e =
     let second = c .before in

@@ -25,7 +25,7 @@ returns-2 c =
 -- the replies decide
 replies-decide : (c : tie.After-check-replies) (r : Replies) → c .check-replies .result ≡ r →
     Checks (c .before .before .before .before .before .before .before .before .before .before .before .before .args .call) (now (c .before .before .before .before .before .before .before .before .before .before .before .before .args .store)) (now (c .before .before .before .before .before .before .before .before .before .before .before .before .args .loader)) (now (c .before .before .before .before .before .before .before .before .before .before .before .before .args .replies))
-    (tablesBy r (record { store = c .before .before .before .before .before .before .n .given .0 .0; present = c .before .before .before .before .before .before .before .before .before .before .before .before .args .call .present; loader = c .before .before .m .given .0 .0 }))
+    (tablesBy r (record { store = c .before .before .before .before .before .before .n .given .0 .0; «has_loader» = c .before .before .before .before .before .before .before .before .before .before .before .before .args .call .«has_loader»; loader = c .before .before .m .given .0 .0 }))
 replies-decide c r e =
     let loaded = c .before .before in
     let looked = loaded .before .before in

@@ -3,13 +3,14 @@ use mathlib.Core.Path.{sym, _∙_}
 use native.Mathlib.Omega.{arith}
 use denote.Ref.{now}
 use borrow.Author.Needs.{needs}
-use Rattle.container.specs.ReadTold.{ReadTold, read-told, refused-told, code-within}
+use Rattle.container.specs.ReadToldLaws.{ReadTold, read-told, refused-told, code-within}
 use Rattle.opening.specs.OpenLaws.{unreadable, bad-tables, entered}
 use Rattle.opening.proofs.open.open.Statement.{statement}
 use Rattle.opening.proofs.open.open.Tie as tie
 
 -- the container that was read
-told : (c : tie.After-known-told2) → ReadTold (now (c .before .before .before .before .before .before .before .before .args .container)) (c .before .d2 .given .0 .0)
+told : (c : tie.After-known-told2) →
+    ReadTold (now (c .before .before .before .before .before .before .before .before .args .container)) (c .before .d2 .given .0 .0)
 told c =
     let done = c .before in
     let bytes-read = done .before .before in

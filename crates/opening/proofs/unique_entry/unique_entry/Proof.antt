@@ -8,10 +8,10 @@ use lib.ListN.{drop}
 use borrow.Author.Needs.{needs}
 use Rattle.container.specs.Container.{Entry}
 use Rattle.container.specs.Reader.{read, entries}
-use Rattle.container.specs.EntryTold.{EntryFound, entry-found, entry-short}
-use Rattle.container.specs.declared.offsets.Found.{Found}
-use Rattle.opening.specs.Parts.{OnlyTold}
-use Rattle.opening.specs.OnlyLaws.{Seeking, seek-begins, seek-on, none-short, none-left, soughtBy, matched}
+use Rattle.container.specs.EntryToldLaws.{EntryFound, entry-found, entry-short}
+use Rattle.container.specs.declared.offsets.FirstMatch.{FirstMatch}
+use Rattle.opening.specs.Parts.{SoughtTold}
+use Rattle.opening.specs.UniqueLaws.{Seeking, seek-begins, seek-on, none-short, none-left, soughtBy, matched}
 use Rattle.opening.proofs.unique_entry.unique_entry.Statement.{statement}
 use Rattle.opening.proofs.unique_entry.unique_entry.Tie as tie
 
@@ -28,7 +28,7 @@ returns : tie.Need-returns Inv-loop μ-loop
 returns c =
     let reading = c .before .before in
     let turn = reading .before .before in
-    λ es t k. absurd (none-short _ _ _ _ _ _ (turn .loop .inv) (reading .before .loop-test .taken) (entry-short _ (turn .loop .at) (sym (c .enum-told .given .1) ∙ reading .entry-at .ensures)) es t k)
+    λ es t k. absurd (none-short (turn .loop .inv) (reading .before .loop-test .taken) (entry-short _ (turn .loop .at) (sym (c .enum-told .given .1) ∙ reading .entry-at .ensures)) es t k)
 
 -- the entry that a turn found
 entry-of : (c : tie.After-known-told Inv-loop μ-loop) → EntryFound (now (c .before .before .before .before .before .before .before .args .s)) (c .before .before .before .before .before .loop .at) (c .before .e .given .0 .0)
@@ -42,15 +42,15 @@ sub-more : tie.Need-sub-more Inv-loop μ-loop
 sub-more c = omega arith
 
 -- what was found behind the first entry with the selector
-behind : (c : tie.After-find Inv-loop μ-loop) (o : Found) → c .find .result ≡ o → (es : List Entry) (t : List ℕ) →
+behind : (c : tie.After-find Inv-loop μ-loop) (o : FirstMatch) → c .find .result ≡ o → (es : List Entry) (t : List ℕ) →
     entries (c .before .before .before .before .before .before .before .before .before .before .args .n) (drop (c .before .before .before .before .before .before .before .before .before .before .args .first) (now (c .before .before .before .before .before .before .before .before .before .before .args .s))) ≡ read es t →
-    OnlyTold (now (c .before .before .before .before .before .before .before .before .before .before .args .s)) (c .before .before .before .before .before .before .before .before .before .before .args .selector) es (soughtBy (c .before .before .before .before .e .given .0 .0) o)
+    SoughtTold (now (c .before .before .before .before .before .before .before .before .before .before .args .s)) (c .before .before .before .before .before .before .before .before .before .before .args .selector) es (soughtBy (c .before .before .before .before .e .given .0 .0) o)
 behind c o e es t k =
     let same = c .before in
     let found = same .before .before in
     let tested = found .before .before .before .before in
     let turn = tested .before in
-    matched _ _ _ _ _ _ (turn .loop .inv) (tested .loop-test .taken) _ (entry-of found) (same .if1 .taken) _ (c .find .ensures) es t k o e
+    matched (turn .loop .inv) (tested .loop-test .taken) _ (entry-of found) (same .if1 .taken) _ (c .find .ensures) es t k o e
 
 returns-2 : tie.Need-returns-2 Inv-loop μ-loop
 returns-2 c = behind (c .before .before) _ (c .enum-told2 .given .1)
@@ -66,10 +66,10 @@ loop-again c =
     let found = c .before .before in
     let tested = found .before .before .before .before in
     let turn = tested .before in
-    seek-on _ _ _ _ _ _ (turn .loop .inv) (tested .loop-test .taken) _ (entry-of found) (c .if1 .left)
+    seek-on (turn .loop .inv) (tested .loop-test .taken) _ (entry-of found) (c .if1 .left)
 
 returns-4 : tie.Need-returns-4 Inv-loop μ-loop
-returns-4 c = none-left _ _ _ _ _ _ (c .before .loop .inv) (c .loop-test .left)
+returns-4 c = none-left (c .before .loop .inv) (c .loop-test .left)
 
 pub unique-entry-spec : {M : Type 1} → statement M
 unique-entry-spec =

@@ -6,14 +6,14 @@ use denote.Ref.{now}
 use lib.ListN.{length}
 use borrow.Author.Needs.{needs}
 use Rattle.isa.specs.Codec.{decodeAt}
-use Rattle.isa.specs.RoundTrip.{Place, decode-place}
+use Rattle.isa.specs.RoundTripTheorems.{Place, decode-place}
 use Rattle.isa.specs.declared.codec.Decoded.the-variants.{Done}
-use Rattle.opening.specs.StartLaws.{Reading, read-begins, read-end, read-refused, read-here, read-on}
+use Rattle.opening.specs.StartLaws.{StartsLeft, read-begins, read-end, read-refused, read-here, read-on}
 use Rattle.opening.proofs.unmapped.is_start.Statement.{statement}
 use Rattle.opening.proofs.unmapped.is_start.Tie as tie
 
 abbrev Inv-loop : tie.InvT-loop
-Inv-loop code offset place₀ place = Reading code offset place
+Inv-loop code offset place₀ place = StartsLeft code offset place
 
 abbrev μ-loop : tie.MeasureT-loop
 μ-loop code offset place₀ place = length code - place
@@ -29,7 +29,9 @@ returns c =
     read-refused _ _ (turn .loop .place) (turn .loop .inv) (tested .loop-test .taken) _ (sym (decoding .decode .ensures) ∙ c .enum-told .given .1)
 
 -- the instruction that a turn decoded, and where
-decoded : (c : tie.After-known-told Inv-loop μ-loop) → decodeAt (now (c .before .before .before .before .before .before .before .args .code)) (c .before .before .before .before .before .loop .place) ≡ Done (c .before .n .given .0 .0) (c .before .n .given .0 .1 .0)
+decoded : (c : tie.After-known-told Inv-loop μ-loop) →
+    decodeAt (now (c .before .before .before .before .before .before .before .args .code)) (c .before .before .before .before .before .loop .place)
+    ≡ Done (c .before .n .given .0 .0) (c .before .n .given .0 .1 .0)
 decoded c =
     let told = c .before in
     let decoding = told .before .before in
@@ -42,8 +44,7 @@ returns-2 : tie.Need-returns-2 Inv-loop μ-loop
 returns-2 c =
     let tested = c .before .before .before .before .before in
     let turn = tested .before in
-    let known = turn .before in
-    read-here _ _ (turn .loop .place) (turn .loop .inv) (tested .loop-test .taken) (λ k. known .shared-slice-known .given k .fits) _ _ (decoded (c .before)) (c .if1 .taken)
+    read-here _ _ (turn .loop .place) (turn .loop .inv) (tested .loop-test .taken) _ _ (decoded (c .before)) (c .if1 .taken)
 
 add-place : tie.Need-add-place Inv-loop μ-loop
 add-place c = let p = placed (c .before) in omega (arith, p .within)
@@ -55,8 +56,7 @@ loop-again : tie.Need-loop-again Inv-loop μ-loop
 loop-again c =
     let tested = c .before .before .before .before .before in
     let turn = tested .before in
-    let known = turn .before in
-    read-on _ _ (turn .loop .place) (turn .loop .inv) (tested .loop-test .taken) (λ k. known .shared-slice-known .given k .fits) _ _ (decoded (c .before)) (c .if1 .left)
+    read-on _ _ (turn .loop .place) (turn .loop .inv) (tested .loop-test .taken) _ _ (decoded (c .before)) (c .if1 .left)
 
 returns-3 : tie.Need-returns-3 Inv-loop μ-loop
 returns-3 c = read-end _ _ (c .before .loop .place) (c .before .loop .inv) (c .loop-test .left)

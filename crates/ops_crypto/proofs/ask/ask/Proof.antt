@@ -9,22 +9,22 @@ use Rattle.ops_crypto.specs.AskLaws.{shown-within, shown-is, ask-none, a
 use Rattle.ops_crypto.proofs.ask.ask.Statement.{statement}
 use Rattle.ops_crypto.proofs.ask.ask.Tie as tie
 
-abbrev S : tie.Else1 → tie.Start
-S c = c .before .before .before .before
+abbrev start : tie.Else1 → tie.Start
+start c = c .before .before .before .before
 
 -- a row is left
-left : (c : tie.Else1) → S c .args .run .replies * 48 + 48 ≤ length (S c .args .replies .now)
-left c = omega (arith, c .if1 .left, S c .pre)
+left : (c : tie.Else1) → start c .args .run .replies * 48 + 48 ≤ length (start c .args .replies .now)
+left c = omega (arith, c .if1 .left, start c .pre)
 
 -- where the row was read, from where its length was
-abbrev R : tie.After-shown → tie.After-reply
-R c = c .before .before .before
+abbrev asked : tie.After-shown → tie.After-reply
+asked c = c .before .before .before
 
 -- the part of the row's bytes that its length takes
-within : (c : tie.After-shown) → c .shown .result ≤ length (R c .reply .result .bytes)
+within : (c : tie.After-shown) → c .shown .result ≤ length (asked c .reply .result .bytes)
 within c =
-    let row = R c in
-    let a = S (row .before) .args in
+    let row = asked c in
+    let a = start (row .before) .args in
     shown-within (a .replies .now) (a .run .replies) _ (left (row .before)) (row .reply .ensures) _ (c .shown .ensures)
 
 returns : tie.Need-returns
@@ -41,7 +41,7 @@ returns-2 : tie.Need-returns-2
 returns-2 c =
     let if = c .before .before in
     let row = if .before .before in
-    let a = S (row .before) .args in
+    let a = start (row .before) .args in
     let stopped = c .stop2 .ensures in (
       (rw stopped, rw stopped),
       λ e stack log d ks f. ask-fault e (a .replies .now) d f (a .run) (a .memory .now) stack ks log _ _ _ (row .reply .ensures) (left (row .before)) stopped (if .if2 .taken),
@@ -55,15 +55,15 @@ slice-aggregate-mem-write c = sym (length-take-le _ _ (within (c .before .before
 
 add-after : tie.Need-add-after
 add-after c =
-    let row = R (c .before .before .before .before .before .before .before) in
-    omega (arith, left (row .before), S (row .before) .good .1 .0)
+    let row = asked (c .before .before .before .before .before .before .before) in
+    omega (arith, left (row .before), start (row .before) .good .1 .0)
 
 returns-3 : tie.Need-returns-3
 returns-3 c =
     let write = c .before .before .before .before in
     let part = write .before .before .before .before in
-    let row = R part in
-    let a = S (row .before) .args in
+    let row = asked part in
+    let a = start (row .before) .args in
     let told = row .reply .ensures in
     let set = c .set .ensures in (
       (rw set, rw set),

@@ -30,10 +30,10 @@ limit-fits c = omega (arith, c .good .1 .0)
 abbrev registers : tie.Start → RegFile
 registers c = file (c .args .regs .now)
 
-abbrev lentAt : tie.Start → (stack : List ℕ) → tables.Bufs → (log : List ℕ) → Bufs
+abbrev lentAt : tie.Start → (stack : List ℕ) → tables.KeyBufs → (log : List ℕ) → Bufs
 lentAt c stack ks log = bufs (c .args .memory .now) stack ks log
 
-pays : (c : tie.After-pay) (e : Env) (stack log : List ℕ) (d : ℕ) (ks : tables.Bufs) → let s = start c in
+pays : (c : tie.After-pay) (e : Env) (stack log : List ℕ) (d : ℕ) (ks : tables.KeyBufs) → let s = start c in
     e .host ≡ s .args .host → Priced e (s .args .replies .now) d (registers s) (s .args .run) (lentAt s stack ks log) (checkOf e (s .args .o)) (λ m. asking m next) (c .pay .result)
 pays c e stack log d ks host =
     let s = start c in

@@ -12,7 +12,8 @@ returns c = rw (c .before .before .before .o .given .1, ← c .before .read .ens
 
 returns-2 : tie.Need-returns-2
 unfolding checkPrice
-returns-2 c = rw (c .before .before .before .o2 .given .1, ← c .before .read2 .ensures) (uncapped _ _ (c .message-variable2 .ok) (c .message-variable2 .ensures))
+returns-2 c =
+    rw (c .before .before .before .o2 .given .1, ← c .before .read2 .ensures) (uncapped _ _ (c .message-variable2 .ok) (c .message-variable2 .ensures))
 
 returns-3 : tie.Need-returns-3
 unfolding checkPrice

@@ -4,7 +4,6 @@ use Prim.Native.Nat.{ℕ}
 use borrow.Author.Needs.{needs}
 use Rattle.state.specs.Regs.{file}
 use Rattle.state.specs.declared.regs.RegFile.{RegFile}
-use Rattle.keys.specs.Lent as tables
 use Rattle.machine.specs.Machine.{Env, Machine}
 use Rattle.machine.specs.Rules.{Rule}
 use Rattle.machine.specs.CryptoRules.{asking, tainting, hashOf}

@@ -10,7 +10,7 @@ use borrow.Author.Tests.{not-true, not-false}
 use Rattle.words.specs.Bytes.{num}
 use Rattle.state.specs.RegionLaws.{part-ordered, part-ends, part-length}
 use Rattle.state.specs.declared.regs.RegFile.{RegFile}
-use Rattle.keys.specs.Lent.{Given, bufs, given}
+use Rattle.keys.specs.Lent.{Given, keyBufs, given}
 use Rattle.keys.specs.KeyLaws.{key-ready}
 use Rattle.keys.specs.declared.look.TableRows.{TableRows}
 use Rattle.machine.specs.Machine.{Env}
@@ -49,7 +49,7 @@ changed c = c .before .before
 
 -- what a run is given about keys, the bytes lent, the key
 abbrev givenAt : tie.Start → (rd wr st ld : List ℕ) → Given
-givenAt c rd wr st ld = let a = c .args in given rd wr (a .kreads .now) (a .kwrites .now) st ld
+givenAt c rd wr st ld = let a = c .args in given rd wr (a .keyed-reads .now) (a .keyed-writes .now) st ld
 
 abbrev lentAt : tie.Start → (stack ch fe pd log : List ℕ) → Bufs
 lentAt c stack ch fe pd log = let a = c .args in lentTo (a .memory .now) stack ch fe (a .readable .now) (a .writable .now) pd log
@@ -62,7 +62,7 @@ keyAt c = let g = c .before .at .given .0 in take (g .1 .0 - g .0) (drop (g .0) 
 
 -- the store and the loader are not looked at
 nothing-lent : TableRows
-nothing-lent = record { store = 0; present = false; loader = 0 }
+nothing-lent = record { store = 0; «has_loader» = false; loader = 0 }
 
 part : (c : tie.After-known-told2) → let g = c .before .at .given .0 in (g .0 ≤ g .1 .0) × (g .1 .0 ≤ length (start c .args .memory .now))
 part c =
@@ -104,7 +104,8 @@ returns-2 c =
     (taint-outside e s d f (a .run) (a .put) (lentAt begin stack ch fe pd log) _ (a .out) _ (region .mem-region .ensures) _ (told .enum-told2 .given .1) (c .go-with2 .ensures))
 
 plan-authorise-requires : tie.Need-plan-authorise-requires
-plan-authorise-requires c κs = let k = c .before .before .before in let good = start k .pre .1 .3 in (good .may-read .table, good .may-write .table, key-length k)
+plan-authorise-requires c κs =
+    let k = c .before .before .before in let good = start k .pre .1 .3 in (good .may-read .table, good .may-write .table, key-length k)
 
 returns-3 : tie.Need-returns-3
 returns-3 c =
@@ -184,7 +185,7 @@ authorise-requires c κs =
     let a = start k .args in
     let lists = start k .pre .1 in (
       rw (ap (λ (x : Run). x .counts) (paid-is (a .run) _ _ _ (bill .pay .ensures) (under .before .before .rest .given .1)))
-          (key-ready nothing-lent (givenAt (start k) [] [] [] []) (a .run .counts) (bufs (lists .0) (lists .1) (a .readable .now) (a .writable .now) (lists .2)) (lists .3) (baseAt k) (num (keyAt k)) _
+          (key-ready nothing-lent (givenAt (start k) [] [] [] []) (a .run .counts) (keyBufs (lists .0) (lists .1) (a .readable .now) (a .writable .now) (lists .2)) (lists .3) (baseAt k) (num (keyAt k)) _
           (plan .plan-authorise .ensures nothing-lent [] [] [] [] (lists .0) (lists .1) (lists .2) (lists .3)) (not-false _ (changed c .before .before .if3 .left))),
       key-length k,
     )

@@ -3,7 +3,7 @@ use borrow.Author.Needs.{needs}
 use Rattle.machine.specs.Rules.{next}
 use Rattle.machine.specs.JumpRules.{jumping, jumpOf}
 use Rattle.machine.specs.Sound.{machineOf}
-use Rattle.ops_moves.specs.MoveLaws.{goes-on}
+use Rattle.ops_moves.specs.MoveLaws.{move-goes-on}
 use Rattle.ops_moves.specs.JumpLaws.{on-zero, on-other}
 use Rattle.ops_moves.proofs.jumps.step.Statement.{statement}
 use Rattle.ops_moves.proofs.jumps.step.Tie as tie
@@ -14,7 +14,7 @@ returns c =
     let tested = c .before in
     let reading = tested .before in
     let told = reading .before .before in
-    rw (c .go-on .ensures, told .o2 .given .1) (λ x mem lm h. on-other x _ _ mem _ _ _ (reading .read .ensures) (jumping (x .env) _) next _ (tested .if1 .taken) (goes-on x _ _ mem _))
+    rw (c .go-on .ensures, told .o2 .given .1) (λ x mem lm h. on-other x _ _ mem _ _ _ (reading .read .ensures) (jumping (x .env) _) next _ (tested .if1 .taken) (move-goes-on x _ _ mem _))
 
 returns-2 : tie.Need-returns-2
 unfolding machineOf jumpOf
@@ -22,7 +22,7 @@ returns-2 c =
     let tested-again = c .before in
     let reading = tested-again .before in
     let o3-at = reading .before .before in
-    rw (c .go-on2 .ensures, o3-at .o3 .given .1) (λ x mem lm h. on-zero x _ _ mem _ _ _ (reading .read2 .ensures) next (jumping (x .env) _) _ (tested-again .if2 .taken) (goes-on x _ _ mem _))
+    rw (c .go-on2 .ensures, o3-at .o3 .given .1) (λ x mem lm h. on-zero x _ _ mem _ _ _ (reading .read2 .ensures) next (jumping (x .env) _) _ (tested-again .if2 .taken) (move-goes-on x _ _ mem _))
 
 ret-requires : tie.Need-ret-requires
 ret-requires c κs =

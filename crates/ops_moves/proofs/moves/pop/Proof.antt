@@ -1,7 +1,7 @@
 -- `pop` meets its contract. Assumes nothing.
 use denote.Ref.{now}
 use borrow.Author.Needs.{needs}
-use Rattle.ops_moves.specs.MoveLaws.{pop-some, pops-on, pops-not, sets-on}
+use Rattle.ops_moves.specs.MoveLaws.{pop-word, pops-on, pops-not, sets-on}
 use Rattle.ops_moves.proofs.moves.pop.Statement.{statement}
 use Rattle.ops_moves.proofs.moves.pop.Tie as tie
 
@@ -13,7 +13,7 @@ sub-next c =
     let told = c .before .before in
     let popping = told .before .before in
     let before-at = popping .before in
-    let start = before-at .before in pop-some (now (start .args .stack)) (start .args .run .depth) _ _ (popping .pop .ensures) (told .p .given .1)
+    let start = before-at .before in pop-word (now (start .args .stack)) (start .args .run .depth) _ _ (popping .pop .ensures) (told .p .given .1)
 
 returns : tie.Need-returns
 returns c =

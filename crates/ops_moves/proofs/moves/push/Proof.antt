@@ -1,7 +1,7 @@
 -- `push` meets its contract. Assumes nothing.
 use borrow.Author.Needs.{needs}
 use Rattle.machine.specs.Rules.{next}
-use Rattle.ops_moves.specs.MoveLaws.{pushes-on, pushes-not, goes-on}
+use Rattle.ops_moves.specs.MoveLaws.{pushes-on, pushes-not, move-goes-on}
 use Rattle.ops_moves.proofs.moves.push.Statement.{statement}
 use Rattle.ops_moves.proofs.moves.push.Tie as tie
 
@@ -9,7 +9,7 @@ returns : tie.Need-returns
 returns c =
     let told = c .before .before in
     let pushing = told .before .before .before .before in
-    rw (c .go-on .ensures) (λ x f mem. pushes-on x _ f mem _ _ _ _ (pushing .push .ensures .0) (pushing .push .ensures .1) next _ _ (told .p .given .1) (goes-on x _ f mem _))
+    rw (c .go-on .ensures) (λ x f mem. pushes-on x _ f mem _ _ _ _ (pushing .push .ensures .0) (pushing .push .ensures .1) next _ _ (told .p .given .1) (move-goes-on x _ f mem _))
 
 returns-2 : tie.Need-returns-2
 returns-2 c =

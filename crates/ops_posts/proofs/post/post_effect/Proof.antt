@@ -67,7 +67,8 @@ on-region c u r h =
 abbrev movedAt : tie.After-struct-known → Run
 movedAt c = c .before .before .moved .given .0 .0
 
-moved-is : (c : tie.After-struct-known) → movedAt c ≡ withUsed (start (found c) .args .run) (start (found c) .args .run .meter .used + 2 * length (bytesAt (found c)))
+moved-is : (c : tie.After-struct-known) →
+    movedAt c ≡ withUsed (start (found c) .args .run) (start (found c) .args .run .meter .used + 2 * length (bytesAt (found c)))
 moved-is c = paid-is (start (found c) .args .run) _ _ _ (c .before .before .before .before .pay .ensures) (c .before .before .moved .given .1)
 
 abbrev paidAt : tie.After-append-arg → Run

@@ -5,7 +5,7 @@ use borrow.Author.Needs.{needs}
 use borrow.Author.Tests.{not-true, not-false}
 use Rattle.words.specs.Bytes.{num}
 use Rattle.keys.specs.StoreLaws.{store-ready}
-use Rattle.keys.specs.Lent.{Given, bufs, given}
+use Rattle.keys.specs.Lent.{Given, keyBufs, given}
 use Rattle.machine.specs.Lent.{Bufs, lentTo}
 use Rattle.ops_storage.specs.StoreLaws.{store-denied, store-unpaid, store-full, store-done}
 use Rattle.ops_storage.proofs.store.store_key.Statement.{statement}
@@ -76,7 +76,7 @@ store-requires c κs =
     let s = start (right bill) in
     let a = s .args in
     let rest = s .pre .2 in (
-      store-ready (a .lent) (givenAt s [] [] []) (a .run .counts) (bufs (a .changes .now) (a .fetched .now) (rest .0) (a .writable .now) (a .paid .now)) (rest .1) (num (a .key .now)) (a .v)
+      store-ready (a .lent) (givenAt s [] [] []) (a .run .counts) (keyBufs (a .changes .now) (a .fetched .now) (rest .0) (a .writable .now) (a .paid .now)) (rest .1) (num (a .key .now)) (a .v)
           _ (planned bill .plan-store .ensures [] (a .writes .now) [] [] (rest .0) (rest .1)) (not-false _ (c .before .before .before .if2 .left)),
       s .pre .3,
     )

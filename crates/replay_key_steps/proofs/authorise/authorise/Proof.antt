@@ -5,7 +5,7 @@ use Prim.Native.Nat.{_-_}
 use lib.ListN.{length, take, drop}
 use borrow.Author.Needs.{needs}
 use borrow.Author.Tests.{not-false}
-use Rattle.keys.specs.Lent.{Given, bufs, given}
+use Rattle.keys.specs.Lent.{Given, keyBufs, given}
 use Rattle.keys.specs.KeyLaws.{key-ready}
 use Rattle.keys.specs.declared.look.TableRows.{TableRows}
 use Rattle.replay_key_steps.specs.StepLaws.{key-length}
@@ -17,7 +17,7 @@ start planned = planned .before .before .before .before .before .before .before 
 
 -- what authorising leaves does not depend on store and loader
 abbrev no-store : TableRows
-no-store = record { store = 0; present = false; loader = 0 }
+no-store = record { store = 0; «has_loader» = false; loader = 0 }
 
 abbrev keyed : tie.After-plan-authorise → Given
 keyed planned =
@@ -31,7 +31,7 @@ authorise-requires c κs =
     let (m, _, l) = start planned .pre in
     let u = m .unseen in
     let plan = planned .plan-authorise .ensures no-store [] [] [] [] (u .changes) (u .fetched) (u .paid) (m .good) in
-    let tables = bufs (u .changes) (u .fetched) (a .readable .now) (a .writable .now) (u .paid) in
+    let tables = keyBufs (u .changes) (u .fetched) (a .readable .now) (a .writable .now) (u .paid) in
     let room = not-false _ (c .before .before .if2 .left) in
     (key-ready no-store (keyed planned) (a .c) tables (m .good) _ _ _ plan room, key-length (a .step .now) l)
 

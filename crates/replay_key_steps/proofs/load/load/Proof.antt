@@ -6,7 +6,7 @@ use lib.Seq.{length-take-le}
 use borrow.Author.Needs.{needs}
 use borrow.Author.Tests.{not-false}
 use Rattle.keys.specs.Values.{look}
-use Rattle.keys.specs.Lent.{Given, bufs, given}
+use Rattle.keys.specs.Lent.{Given, keyBufs, given}
 use Rattle.keys.specs.LoadLaws.{load-ready}
 use Rattle.replay_key_steps.specs.StepLaws.{key-length}
 use Rattle.replay_key_steps.proofs.load.load.Statement.{statement}
@@ -34,7 +34,7 @@ load-requires c κs =
     let a = start looked .args in
     let (_, m, _, l) = start looked .pre in
     let u = m .unseen in
-    let tables = bufs (a .changes .now) (a .fetched .now) (a .readable .now) (u .may-write) (u .paid) in
+    let tables = keyBufs (a .changes .now) (a .fetched .now) (a .readable .now) (u .may-write) (u .paid) in
     let fits = room .load-room .ensures (a .n) g (a .changes .now) (a .readable .now) (u .may-write) (u .paid) (m .good) seen in
     let ready = load-ready (a .n) g (a .c) tables (m .good) _ _ seen _ fits (not-false _ (c .before .if2 .left)) in
     (m .good .fetched .table, key-length (a .step .now) l, ready)

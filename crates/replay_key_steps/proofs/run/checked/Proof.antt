@@ -13,10 +13,10 @@ steps-requires c κs =
     let start = stored .before .before .before .before .before .before .before in
     let store = start .args .store .now in
     let loader = start .args .loader .now in
-    let present = start .args .present in (
+    let there-is = start .args .has-loader in (
       (
         whole-table 40 store (omega arith) _ (sym (stored .before .before .check .ensures) ∙ stored .ns .given .1),
-        λ there. table-if 40 loader (omega arith) present _ (sym (loaded .before .before .check-if .ensures) ∙ loaded .nl .given .1),
+        λ there. table-if 40 loader (omega arith) there-is _ (sym (loaded .before .before .check-if .ensures) ∙ loaded .nl .given .1),
       ),
       start .pre,
     )

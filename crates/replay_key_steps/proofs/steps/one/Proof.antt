@@ -1,6 +1,6 @@
 -- `steps::one` meets its contract: each step leaves good tables. Assumes nothing.
 use borrow.Author.Needs.{needs}
-use Rattle.keys.specs.Lent.{Bufs, bufs}
+use Rattle.keys.specs.Lent.{KeyBufs, keyBufs}
 use Rattle.keys.specs.Sound.{Good}
 use Rattle.replay_key_steps.proofs.steps.one.Statement.{statement}
 use Rattle.replay_key_steps.proofs.steps.one.Tie as tie
@@ -13,8 +13,8 @@ abbrev start : Known → tie.Start
 start known = known .before .before .before .before .before .before .before .before .before .before
 
 -- the five tables at entry
-abbrev tables : Known → Bufs
-tables known = let a = start known .args in bufs (a .changes .now) (a .fetched .now) (a .readable .now) (a .writable .now) (a .paid .now)
+abbrev tables : Known → KeyBufs
+tables known = let a = start known .args in keyBufs (a .changes .now) (a .fetched .now) (a .readable .now) (a .writable .now) (a .paid .now)
 
 good : (known : Known) → Good (start known .args .c) (tables known)
 good known = start known .pre .1

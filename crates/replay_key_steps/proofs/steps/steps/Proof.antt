@@ -4,7 +4,7 @@ use Prim.Native.Nat.{_-_, _≤_}
 use native.Mathlib.Omega.{arith}
 use lib.ListN.{length}
 use borrow.Author.Needs.{needs}
-use Rattle.keys.specs.Lent.{bufs}
+use Rattle.keys.specs.Lent.{keyBufs}
 use Rattle.keys.specs.Sound.{Good}
 use Rattle.keys.specs.OpeningLaws.{opening-good}
 use Rattle.replay_key_steps.proofs.steps.steps.Statement.{statement}
@@ -13,7 +13,7 @@ use Rattle.replay_key_steps.proofs.steps.steps.Tie as tie
 abbrev Inv-loop : tie.InvT-loop
 Inv-loop n slots store loader records changes₀ fetched₀ readable₀ writable₀ paid₀ c₀ at₀ t16 changes fetched readable writable paid c at =
     (at ≤ length records) × (length changes ≡ 490) × (length fetched ≡ 410) × (length readable ≡ 330) × (length writable ≡ 256) ×
-    (length paid ≡ 130) × Good c (bufs changes fetched readable writable paid)
+    (length paid ≡ 130) × Good c (keyBufs changes fetched readable writable paid)
 
 abbrev μ-loop : tie.MeasureT-loop
 μ-loop n slots store loader records changes₀ fetched₀ readable₀ writable₀ paid₀ c₀ at₀ t16 changes fetched readable writable paid c at =

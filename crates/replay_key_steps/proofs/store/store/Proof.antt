@@ -2,7 +2,7 @@
 use mathlib.Core.List.{[]}
 use borrow.Author.Needs.{needs}
 use borrow.Author.Tests.{not-false}
-use Rattle.keys.specs.Lent.{Given, bufs, given}
+use Rattle.keys.specs.Lent.{Given, keyBufs, given}
 use Rattle.keys.specs.StoreLaws.{store-ready}
 use Rattle.replay_key_steps.specs.StepLaws.{key-length}
 use Rattle.replay_key_steps.proofs.store.store.Statement.{statement}
@@ -24,7 +24,7 @@ store-requires c κs =
     let (_, m, _, l) = start planned .pre in
     let r = m .unseen .may-read in
     let plan = planned .plan-store .ensures [] [] [] [] r (m .good) in
-    let tables = bufs (a .changes .now) (a .fetched .now) r (a .writable .now) (a .paid .now) in
+    let tables = keyBufs (a .changes .now) (a .fetched .now) r (a .writable .now) (a .paid .now) in
     let room = not-false _ (c .before .before .before .if2 .left) in
     (store-ready (a .n) (sources planned) (a .c) tables (m .good) _ _ _ plan room, key-length (a .step .now) l)
 

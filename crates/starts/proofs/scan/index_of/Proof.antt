@@ -1,7 +1,7 @@
 -- `index_of` meets its contract. Assumes nothing.
 use borrow.Author.Needs.{needs}
 use borrow.Author.Tests.{lt-ltb, le-ltb}
-use Rattle.starts.specs.Starts.{indexOf}
+use Rattle.starts.specs.Walk.{indexOf}
 use Rattle.starts.proofs.scan.index_of.Statement.{statement}
 use Rattle.starts.proofs.scan.index_of.Tie as tie
 

@@ -6,12 +6,12 @@ use denote.Ref.{now}
 use lib.ListN.{length}
 use borrow.Author.Needs.{needs}
 use Rattle.isa.specs.Codec.{decodeAt}
-use Rattle.isa.specs.RoundTrip.{Place, decode-place}
+use Rattle.isa.specs.RoundTripTheorems.{Place, decode-place}
 use Rattle.isa.specs.declared.instr.Instr.{Instr}
 use Rattle.isa.specs.declared.codec.Decoded.the-variants.{Done}
 use Rattle.isa.specs.declared.flow.Refers.{Refers}
 use Rattle.isa.specs.Refers.{refersTo}
-use Rattle.starts.specs.Starts.{ended, met, indexOf}
+use Rattle.starts.specs.Walk.{ended, met, indexOf}
 use Rattle.starts.specs.ScanLaws.{Scanning, scan-begins, scan-end, scan-refused, scan-bad, scan-on}
 use Rattle.starts.proofs.scan.scan.Statement.{statement}
 use Rattle.starts.proofs.scan.scan.Tie as tie

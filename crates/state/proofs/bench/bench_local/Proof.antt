@@ -104,7 +104,8 @@ module _ {M : Type 1} (𝓤 : URA M) (H : Heap 𝓤) (A : Atoms 𝓤) (W : Given
   abbrev Post : Val → SProp 𝓤
   Post = walkOf 𝓤 H A plain.ended stayed (plain.clauses 𝓤 H A at-mem run) .post ((tt, tt, tt, x, at), tt)
 
-  exits : (s : Stepped) → s ≡ benchOf i h → Is T.the-row h (word h ∷ []) → Is E.the-row i (opv ∷ []) → ent 𝓤 (sem 𝓤 H A (S.the-row .own s (whole s ∷ []))) (Post (whole s))
+  exits : (s : Stepped) → s ≡ benchOf i h → Is T.the-row h (word h ∷ []) → Is E.the-row i (opv ∷ []) →
+      ent 𝓤 (sem 𝓤 H A (S.the-row .own s (whole s ∷ []))) (Post (whole s))
   exits s e gh gi =
       qed W (‵ (S.the-row .own s (whole s ∷ [])) ∷ []) ∵
       suffices ! _ (ends-at 𝓤 H A plain.ended stayed (plain.clauses 𝓤 H A at-mem run) W ((tt, tt, tt, x, at), tt) (whole s) s (tt, (tt, tt)) (tt, (tt, tt))) $ says ! e $
@@ -168,8 +169,10 @@ module _ {M : Type 1} (𝓤 : URA M) (H : Heap 𝓤) (A : Atoms 𝓤) (W : Given
         keep ! (0 ∷ []) $ by ! (exits (answer (zs .0) n) e gh gi)))))))))))))))))))
 
 module _ {M : Type 1} (𝓤 : URA M) (H : Heap 𝓤) (A : Atoms 𝓤) (W : Given 𝓤 H A) (at-mem : Memory → SProp 𝓤) (run : Routine → Fun 𝓤) where
-  plain-walks : (C : Calls 𝓤 H) (Λ : Loops 𝓤 H) → FmC 𝓤 H (W .laws) C → Triple 𝓤 (C #held) (Held 𝓤 H A at-mem run) → Walks 𝓤 H A plain.ended stayed (WpFn 𝓤 H C Λ code.function) (plain.clauses 𝓤 H A at-mem run)
-  plain-walks C Λ fm known = walked 𝓤 H A plain.ended stayed (plain.clauses 𝓤 H A at-mem run) (WpFn 𝓤 H C Λ code.function) (λ κs. (LL.vals T.the-type T′.the-laws, (EL.vals E.the-type E′.the-laws, tt))) (λ κs. (LL.tells T.the-type T′.the-laws, (EL.tells E.the-type E′.the-laws, tt)))
+  plain-walks : (C : Calls 𝓤 H) (Λ : Loops 𝓤 H) → FmC 𝓤 H (W .laws) C → Triple 𝓤 (C #held) (Held 𝓤 H A at-mem run) →
+      Walks 𝓤 H A plain.ended stayed (WpFn 𝓤 H C Λ code.function) (plain.clauses 𝓤 H A at-mem run)
+  plain-walks C Λ fm known =
+      walked 𝓤 H A plain.ended stayed (plain.clauses 𝓤 H A at-mem run) (WpFn 𝓤 H C Λ code.function) (λ κs. (LL.vals T.the-type T′.the-laws, (EL.vals E.the-type E′.the-laws, tt))) (λ κs. (LL.tells T.the-type T′.the-laws, (EL.tells E.the-type E′.the-laws, tt)))
       (λ κs qs bounds a _ _. via 𝓤 _ (fst∗ 𝓤 _ (emp 𝓤)) (walk 𝓤 H A W at-mem run (a .0) (a .1 .0) C Λ fm known))
 
   goes : AllGo 𝓤 H A W 0 (plain.signature .params) (plain.ended .kept) stayed
@@ -177,7 +180,8 @@ module _ {M : Type 1} (𝓤 : URA M) (H : Heap 𝓤) (A : Atoms 𝓤) (W : Given
 
 plain-meets : {M : Type 1} (𝓤 : URA M) (H : Heap 𝓤) (A : Atoms 𝓤) (W : Given 𝓤 H A) (at-mem : Memory → SProp 𝓤) (run : Routine → Fun 𝓤) (𝓣 : Tables 𝓤 H)
     → Triple 𝓤 (𝓣 .C #held) (Held 𝓤 H A at-mem run) → Meets 𝓤 H A plain.signature (WpFn 𝓤 H (𝓣 .C) (𝓣 .Λ) code.function) (plain.spec 𝓤 H A at-mem run)
-plain-meets 𝓤 H A W at-mem run 𝓣 known = walk-meets 𝓤 H A plain.ended stayed W (goes 𝓤 H A W at-mem run) (plain.clauses 𝓤 H A at-mem run) (WpFn 𝓤 H (𝓣 .C) (𝓣 .Λ) code.function) (WpFn-mono 𝓤 H (W .laws) 𝓣 code.function)
+plain-meets 𝓤 H A W at-mem run 𝓣 known =
+    walk-meets 𝓤 H A plain.ended stayed W (goes 𝓤 H A W at-mem run) (plain.clauses 𝓤 H A at-mem run) (WpFn 𝓤 H (𝓣 .C) (𝓣 .Λ) code.function) (WpFn-mono 𝓤 H (W .laws) 𝓣 code.function)
     (plain-walks 𝓤 H A W at-mem run (𝓣 .C) (𝓣 .Λ) (fmOf 𝓤 H (W .laws) 𝓣) known)
 
 pub bench-local-spec : {M : Type 1} → stated.statement M

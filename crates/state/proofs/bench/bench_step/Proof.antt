@@ -67,7 +67,8 @@ module _ {M : Type 1} (𝓤 : URA M) (H : Heap 𝓤) (A : Atoms 𝓤) (at-mem : 
   Value = tripleOf 𝓤 H A value.signature (value.spec 𝓤 H A at-mem run)
 
   -- of the callee's `ensured`, the clause alone
-  value-of : (h : RegFile) (i : Instr) (s : Stepped) → ent 𝓤 (ensured 𝓤 H A value.ended (value.clauses 𝓤 H A at-mem run) tt (h, (i, tt)) tt s) (fact 𝓤 (s ≡ benchOf i h))
+  value-of : (h : RegFile) (i : Instr) (s : Stepped) →
+      ent 𝓤 (ensured 𝓤 H A value.ended (value.clauses 𝓤 H A at-mem run) tt (h, (i, tt)) tt s) (fact 𝓤 (s ≡ benchOf i h))
   value-of h i s = exE 𝓤 _ (λ ws. snd∗ 𝓤 (sem 𝓤 H A (lasts value.ended tt (h, (i, tt)) ws)) (fact 𝓤 (s ≡ benchOf i h)))
 
 module _ {M : Type 1} (𝓤 : URA M) (H : Heap 𝓤) (A : Atoms 𝓤) (W : Given 𝓤 H A) (at-mem : Memory → SProp 𝓤) (run : Routine → Fun 𝓤) (κ : Lft) (q : Share) (b o : ℕ) (γ : GName) (h : RegFile) (i : Instr) where
@@ -139,8 +140,10 @@ module _ {M : Type 1} (𝓤 : URA M) (H : Heap 𝓤) (A : Atoms 𝓤) (W : Given
         keep ! (0 ∷ 1 ∷ 2 ∷ []) $ by ! (exits s e (fields-of s v is′ .1) gi)))))))))))))
 
 module _ {M : Type 1} (𝓤 : URA M) (H : Heap 𝓤) (A : Atoms 𝓤) (W : Given 𝓤 H A) (at-mem : Memory → SProp 𝓤) (run : Routine → Fun 𝓤) where
-  bench-walks : (C : Calls 𝓤 H) (Λ : Loops 𝓤 H) → FmC 𝓤 H (W .laws) C → Triple 𝓤 (C #value) (Value 𝓤 H A at-mem run) → Walks 𝓤 H A bench.ended stayed (WpFn 𝓤 H C Λ code.function) (bench.clauses 𝓤 H A at-mem run)
-  bench-walks C Λ fm known = walked 𝓤 H A bench.ended stayed (bench.clauses 𝓤 H A at-mem run) (WpFn 𝓤 H C Λ code.function) (λ κs. (ptr-vals, (EL.vals E.the-type E′.the-laws, tt))) (λ κs. (mut-tells (named 0) (κs .0) (T.the-row), (EL.tells E.the-type E′.the-laws, tt)))
+  bench-walks : (C : Calls 𝓤 H) (Λ : Loops 𝓤 H) → FmC 𝓤 H (W .laws) C → Triple 𝓤 (C #value) (Value 𝓤 H A at-mem run) →
+      Walks 𝓤 H A bench.ended stayed (WpFn 𝓤 H C Λ code.function) (bench.clauses 𝓤 H A at-mem run)
+  bench-walks C Λ fm known =
+      walked 𝓤 H A bench.ended stayed (bench.clauses 𝓤 H A at-mem run) (WpFn 𝓤 H C Λ code.function) (λ κs. (ptr-vals, (EL.vals E.the-type E′.the-laws, tt))) (λ κs. (mut-tells (named 0) (κs .0) (T.the-row), (EL.tells E.the-type E′.the-laws, tt)))
       (λ κs qs bounds a _ _. via 𝓤 _ (fst∗ 𝓤 _ (emp 𝓤)) (walk 𝓤 H A W at-mem run (κs .0) (qs .0) (a .0 .ptr .0) (a .0 .ptr .1) (a .0 .name) (a .0 .now) (a .1 .0) C Λ fm known))
 
   goes : AllGo 𝓤 H A W 1 (bench.signature .params) (bench.ended .kept) stayed
@@ -148,7 +151,8 @@ module _ {M : Type 1} (𝓤 : URA M) (H : Heap 𝓤) (A : Atoms 𝓤) (W : Given
 
 bench-meets : {M : Type 1} (𝓤 : URA M) (H : Heap 𝓤) (A : Atoms 𝓤) (W : Given 𝓤 H A) (at-mem : Memory → SProp 𝓤) (run : Routine → Fun 𝓤) (𝓣 : Tables 𝓤 H)
     → Triple 𝓤 (𝓣 .C #value) (Value 𝓤 H A at-mem run) → Meets 𝓤 H A bench.signature (WpFn 𝓤 H (𝓣 .C) (𝓣 .Λ) code.function) (bench.spec 𝓤 H A at-mem run)
-bench-meets 𝓤 H A W at-mem run 𝓣 known = walk-meets 𝓤 H A bench.ended stayed W (goes 𝓤 H A W at-mem run) (bench.clauses 𝓤 H A at-mem run) (WpFn 𝓤 H (𝓣 .C) (𝓣 .Λ) code.function) (WpFn-mono 𝓤 H (W .laws) 𝓣 code.function)
+bench-meets 𝓤 H A W at-mem run 𝓣 known =
+    walk-meets 𝓤 H A bench.ended stayed W (goes 𝓤 H A W at-mem run) (bench.clauses 𝓤 H A at-mem run) (WpFn 𝓤 H (𝓣 .C) (𝓣 .Λ) code.function) (WpFn-mono 𝓤 H (W .laws) 𝓣 code.function)
     (bench-walks 𝓤 H A W at-mem run (𝓣 .C) (𝓣 .Λ) (fmOf 𝓤 H (W .laws) 𝓣) known)
 
 pub bench-step-spec : {M : Type 1} → stated.statement M

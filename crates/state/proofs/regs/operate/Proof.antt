@@ -1,12 +1,12 @@
 -- `operate` meets its contract: each arm does the rule of the instruction that it is told. Assumes nothing.
 use borrow.Author.Needs.{needs}
-use Rattle.state.specs.Regs.{stepOf}
+use Rattle.state.specs.Regs.{registerStep}
 use Rattle.state.specs.RegsLaws.{step-told, mov-told, not-told}
 use Rattle.state.proofs.regs.operate.Statement.{statement}
 use Rattle.state.proofs.regs.operate.Tie as tie
 
 pub operate-spec : {M : Type 1} → statement M
-unfolding stepOf
+unfolding registerStep
 operate-spec =
     tie.close
     (tie.spec

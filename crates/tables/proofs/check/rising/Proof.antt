@@ -9,7 +9,7 @@ use borrow.Author.Needs.{needs}
 use Rattle.tables.specs.Rows.{rows, Row}
 use Rattle.tables.specs.Order.{orderOf}
 use Rattle.tables.specs.Checked.{risingb}
-use Rattle.tables.specs.Walks.{at, Adjacent}
+use Rattle.tables.specs.Walks.{keyOfRow, Adjacent}
 use Rattle.tables.specs.LayoutLaws.{rows-length, key-at, row-ends}
 use Rattle.tables.specs.OrderLaws.{less-is, equal-is, greater-is}
 use Rattle.tables.specs.CheckLaws.{adjacent-more, adjacent-all, adjacent-not}
@@ -43,7 +43,7 @@ i c = turn c .before .loop .i
 abbrev table : tie.After-compare Inv-loop μ-loop → List Row
 table c = rows (start c .args .w) (start c .args .n) (start c .args .t .now)
 
-told : (c : tie.After-compare Inv-loop μ-loop) → c .compare .result ≡ orderOf (at (table c) (i c - 1)) (at (table c) (i c))
+told : (c : tie.After-compare Inv-loop μ-loop) → c .compare .result ≡ orderOf (keyOfRow (table c) (i c - 1)) (keyOfRow (table c) (i c))
 told c =
     let a = start c .args in
     let k = key-at (a .w) (a .n) (i c) (a .t .now) (omega arith) in
@@ -52,7 +52,7 @@ told c =
     let e : (i c - 1) * a .w ≡ i c * a .w - a .w = omega (arith, suc-mul (i c - 1) (a .w), ap (λ (j : ℕ). j * a .w) q) in
     rw (k, j, e) (rw (add-sub-cancel-left (i c * a .w) 32, add-sub-cancel-left (i c * a .w - a .w) 32) at (c .compare .ensures))
 
-fails : (c : tie.After-compare Inv-loop μ-loop) → at (table c) (i c) ≤ at (table c) (i c - 1) → false ≡ risingb 0 (table c)
+fails : (c : tie.After-compare Inv-loop μ-loop) → keyOfRow (table c) (i c) ≤ keyOfRow (table c) (i c - 1) → false ≡ risingb 0 (table c)
 fails c h = sym (adjacent-not (table c) _ (i c) (i c - 1) (rows-length _ _ _) (omega arith) (turn c .loop-test .taken) h)
 
 loop-holds : tie.Need-loop-holds Inv-loop μ-loop

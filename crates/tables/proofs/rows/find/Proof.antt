@@ -9,7 +9,7 @@ use borrow.Author.Needs.{needs}
 use Rattle.words.specs.Bytes.{num}
 use Rattle.tables.specs.Rows.{rows, Row, Rising}
 use Rattle.tables.specs.Order.{orderOf}
-use Rattle.tables.specs.Walks.{at, Bracket}
+use Rattle.tables.specs.Walks.{keyOfRow, Bracket}
 use Rattle.tables.specs.LayoutLaws.{rows-length, key-at, row-ends}
 use Rattle.tables.specs.SearchLaws.{bracket-start, bracket-up, bracket-down, bracket-hit, bracket-end}
 use Rattle.tables.specs.OrderLaws.{less-is, equal-is, greater-is}
@@ -47,7 +47,7 @@ inv : (c : tie.After-compare Inv-loop μ-loop) → let a = start c .args in let 
     Bracket (table c) (num (a .key .now)) (a .n) (i .lo) (i .hi)
 inv c = c .before .before .before .loop .inv
 
-told : (c : tie.After-compare Inv-loop μ-loop) → c .compare .result ≡ orderOf (at (table c) (mid c)) (num (start c .args .key .now))
+told : (c : tie.After-compare Inv-loop μ-loop) → c .compare .result ≡ orderOf (keyOfRow (table c) (mid c)) (num (start c .args .key .now))
 told c =
     let a = start c .args in
     let k = key-at (a .w) (a .n) (mid c) (a .t .now) (omega arith) in

@@ -7,7 +7,7 @@ use native.Mathlib.Nat.{mul-le-mul-right, mul-le-mul-left}
 use lib.ListN.{length}
 use lib.Seq.{length-take-le}
 use borrow.Author.Needs.{needs}
-use Rattle.tables.specs.Rows.{Row, rows, rowOf, find}
+use Rattle.tables.specs.Rows.{Row, rows, rowIn, find}
 use Rattle.tables.specs.LayoutLaws.{rows-length, row-ends}
 use Rattle.tables.specs.SortedLaws.{insert-at, insert-missing}
 use Rattle.tables.specs.StoreLaws.{put-at, put-none, put-new}
@@ -45,25 +45,25 @@ table s = rows (width s) (s .args .n) (s .args .t .now)
 count : (s : tie.Start) → length (table s) ≡ s .args .n
 count s = rows-length (width s) (s .args .n) (s .args .t .now)
 
-found : (c : tie.After-known-told) → find (rowOf (width (hit c)) (hit c .args .row .now) .key) (table (hit c)) ≡ At (place c)
-unfolding rowOf
+found : (c : tie.After-known-told) → find (rowIn (width (hit c)) (hit c .args .row .now) .key) (table (hit c)) ≡ At (place c)
+unfolding rowIn
 found c = sym (c .before .before .before .find .ensures) ∙ c .before .f .given .1
 
-missing : (c : tie.After-known-told2) → find (rowOf (width (miss c)) (miss c .args .row .now) .key) (table (miss c)) ≡ Missing (gap c)
-unfolding rowOf
+missing : (c : tie.After-known-told2) → find (rowIn (width (miss c)) (miss c .args .row .now) .key) (table (miss c)) ≡ Missing (gap c)
+unfolding rowIn
 missing c = sym (c .before .before .before .find .ensures) ∙ c .before .f2 .given .1
 
 ends : (c : tie.After-known-told) → place c * width (hit c) + width (hit c) ≤ length (hit c .args .t .now)
 ends c =
     let s = hit c in
-    let x = rowOf (width s) (s .args .row .now) in
+    let x = rowIn (width s) (s .args .row .now) in
     let h = insert-at x (table s) (place c) x (found c) .0 in
     omega (arith, row-ends (width s) (s .args .n) (place c) (omega (arith, h, count s)), s .pre .fits)
 
 begins : (c : tie.After-known-told2) → gap c * width (miss c) ≤ miss c .args .n * width (miss c)
 begins c =
     let s = miss c in
-    let h = insert-missing (rowOf (width s) (s .args .row .now)) (table s) (gap c) (missing c) .0 in
+    let h = insert-missing (rowIn (width s) (s .args .row .now)) (table s) (gap c) (missing c) .0 in
     mul-le-mul-right (width s) (omega (arith, h, count s))
 
 slice-aggregate-find : tie.Need-slice-aggregate-find

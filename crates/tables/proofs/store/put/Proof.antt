@@ -3,7 +3,7 @@ use mathlib.Core.Path.{_≡_}
 use lib.ListN.{length}
 use borrow.Author.Needs.{needs}
 use Rattle.words.specs.Bytes.{num}
-use Rattle.tables.specs.Rows.{rowOf}
+use Rattle.tables.specs.Rows.{rowIn}
 use Rattle.tables.specs.MadeLaws.{map-made, as-row}
 use Rattle.tables.proofs.store.put.Statement.{statement}
 use Rattle.tables.proofs.store.put.Tie as tie
@@ -13,7 +13,7 @@ start c = c .before .before .before .before .before .before .before
 
 -- the row that was made
 made : (c : tie.After-write) → let a = start c .args in
-    (length (c .write .last .0) ≡ 40) × (rowOf 40 (c .write .last .0) ≡ record { key = num (a .key .now); value = a .v })
+    (length (c .write .last .0) ≡ 40) × (rowIn 40 (c .write .last .0) ≡ record { key = num (a .key .now); value = a .v })
 made c =
     let copied = c .before .before .before .copy-in in
     let s = start c in

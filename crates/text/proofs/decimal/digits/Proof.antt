@@ -1,12 +1,12 @@
 -- `decimal::digits` meets its contract. The loop's invariant: the digits counted and those of what is left make all. Assumes nothing.
 use native.Mathlib.Omega.{arith}
 use borrow.Author.Needs.{needs}
-use Rattle.text.specs.DecimalLaws.{Counted, counted-start, counted-turn, counted-end}
+use Rattle.text.specs.DecimalLaws.{DigitsCounted, counted-start, counted-turn, counted-end}
 use Rattle.text.proofs.decimal.digits.Statement.{statement}
 use Rattle.text.proofs.decimal.digits.Tie as tie
 
 abbrev Inv-loop : tie.InvT-loop
-Inv-loop n x₀ k₀ x k = Counted n x k
+Inv-loop n x₀ k₀ x k = DigitsCounted n x k
 
 abbrev μ-loop : tie.MeasureT-loop
 μ-loop n x₀ k₀ x k = x

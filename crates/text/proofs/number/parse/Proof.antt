@@ -7,8 +7,8 @@ use lib.ListN.{length, drop}
 use borrow.Author.Needs.{needs}
 use Rattle.text.specs.Number.{parsedFrom, parsedOf}
 use Rattle.text.specs.NumberLaws.{parsed-none, parsed-start, parsed-turn, parsed-bad, parsed-end}
-use Rattle.text.specs.declared.number.Parsed.{Parsed}
-use Rattle.text.specs.declared.number.Parsed.the-variants.{Number}
+use Rattle.text.specs.declared.number.ParsedNumber.{ParsedNumber}
+use Rattle.text.specs.declared.number.ParsedNumber.the-variants.{Number}
 use Rattle.text.proofs.number.parse.Statement.{statement}
 use Rattle.text.proofs.number.parse.Tie as tie
 
@@ -28,7 +28,7 @@ abbrev text : tie.At-loop Inv-loop μ-loop → List ℕ
 text turn = turn .before .before .before .args .s .now
 
 -- what the next digit makes of the number decides
-decides : (c : tie.After-with-digit Inv-loop μ-loop) (p : Parsed) → p ≡ c .with-digit .result →
+decides : (c : tie.After-with-digit Inv-loop μ-loop) (p : ParsedNumber) → p ≡ c .with-digit .result →
     let turn = c .before .before .before in
     parsedOf (text turn) ≡ parsedFrom p (drop (turn .loop .i + 1) (text turn))
 decides c p e =

@@ -1,7 +1,7 @@
 -- `Flow::aim` meets its contract: each arm is told the flow. Assumes nothing.
 use borrow.Author.Needs.{needs}
 use Rattle.isa.specs.Refers.{aimOf}
-use Rattle.isa.specs.Told.{aim-told}
+use Rattle.isa.specs.ToldLaws.{aim-told}
 use Rattle.isa.proofs.flow.Flow.aim.Statement.{statement}
 use Rattle.isa.proofs.flow.Flow.aim.Tie as tie
 

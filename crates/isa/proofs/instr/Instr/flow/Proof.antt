@@ -6,8 +6,8 @@ use Rattle.words.specs.Lists.{member}
 use Rattle.isa.specs.Table.{rowOf}
 use Rattle.isa.specs.Forms.{formOf, instrOf}
 use Rattle.isa.specs.Flow.{flowOf}
-use Rattle.isa.specs.Told.{flow-told}
-use Rattle.isa.specs.Tested.{goesOn, goes-on}
+use Rattle.isa.specs.ToldLaws.{flow-told}
+use Rattle.isa.specs.TestLaws.{goesOn, goes-on}
 use Rattle.isa.proofs.Tags.{in-arm}
 use Rattle.isa.proofs.instr.Instr.flow.Statement.{statement}
 use Rattle.isa.proofs.instr.Instr.flow.Tie as tie

@@ -3,7 +3,7 @@ use mathlib.Core.Path.{sym, ap, _∙_}
 use borrow.Author.Needs.{needs}
 use Rattle.isa.specs.declared.opcode.Kind.the-variants.{Other}
 use Rattle.isa.specs.Refers.{aimOf, refersBy}
-use Rattle.isa.specs.Told.{refers-told}
+use Rattle.isa.specs.ToldLaws.{refers-told}
 use Rattle.isa.proofs.instr.Instr.refers.Statement.{statement}
 use Rattle.isa.proofs.instr.Instr.refers.Tie as tie
 

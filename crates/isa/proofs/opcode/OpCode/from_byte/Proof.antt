@@ -1,13 +1,13 @@
 -- `OpCode::from_byte` meets its contract: each arm is told its byte, and the last that the byte is no opcode's. Assumes nothing.
 use mathlib.Core.Path.{sym}
-use Rattle.isa.specs.Table.{rowOf, find, opAt, opcodes}
-use Rattle.isa.specs.Told.{byte-told}
+use Rattle.isa.specs.Table.{rowOf, opWith, opAt, opcodes}
+use Rattle.isa.specs.ToldLaws.{byte-told}
 use Rattle.isa.specs.TableLaws.{none-of}
 use Rattle.isa.proofs.opcode.OpCode.from_byte.Statement.{statement}
 use Rattle.isa.proofs.opcode.OpCode.from_byte.Tie as tie
 
 pub from-byte-spec : {M : Type 1} → statement M
-unfolding rowOf find opAt
+unfolding rowOf opWith opAt
 from-byte-spec =
     tie.close
     (tie.spec

@@ -1,6 +1,6 @@
 -- `OpCode::is_register_op` meets its contract: the kind decides. Assumes nothing.
 use borrow.Author.Needs.{needs}
-use Rattle.isa.specs.Told.{register-told}
+use Rattle.isa.specs.ToldLaws.{register-told}
 use Rattle.isa.proofs.opcode.OpCode.is_register_op.Statement.{statement}
 use Rattle.isa.proofs.opcode.OpCode.is_register_op.Tie as tie
 

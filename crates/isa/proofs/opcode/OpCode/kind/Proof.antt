@@ -3,8 +3,8 @@ use mathlib.Core.Path.{refl, sym}
 use borrow.Author.Needs.{needs}
 use Rattle.isa.specs.declared.opcode.OpCode.{OpCode}
 use Rattle.isa.specs.Kinds.{kindOf, registerOp}
-use Rattle.isa.specs.Told.{kind-told}
-use Rattle.isa.specs.Tested.{isOther, registers-is, other-is}
+use Rattle.isa.specs.ToldLaws.{kind-told}
+use Rattle.isa.specs.TestLaws.{isOther, registers-is, other-is}
 use Rattle.isa.proofs.Tags.{in-arm}
 use Rattle.isa.proofs.opcode.OpCode.kind.Statement.{statement}
 use Rattle.isa.proofs.opcode.OpCode.kind.Tie as tie

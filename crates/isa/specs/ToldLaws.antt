@@ -4,8 +4,8 @@ use mathlib.Core.Path.{_≡_, sym, ap, _∙_}
 use mathlib.Core.List.{List}
 use mathlib.Core.Bool.{Bool}
 use Rattle.isa.specs.declared.opcode.OpCode.{OpCode}
-use Rattle.isa.specs.declared.opcode.Op.{Op}
-use Rattle.isa.specs.declared.opcode.Row.{Row}
+use Rattle.isa.specs.declared.opcode.OpByte.{OpByte}
+use Rattle.isa.specs.declared.opcode.OpRow.{OpRow}
 use Rattle.isa.specs.declared.opcode.Kind.{Kind}
 use Rattle.isa.specs.declared.instr.Instr.{Instr}
 use Rattle.isa.specs.declared.instr.Parts.{Parts}
@@ -22,10 +22,10 @@ use Rattle.isa.specs.Refers.{aimOf, refersBy, refersTo}
 told : {A B : Type 0} (f : A → B) {x y : A} {z : B} → x ≡ y → f y ≡ z → z ≡ f x
 told f e h = sym (ap f e ∙ h)
 
-pub row-told : (o p : OpCode) (r : Row) → o ≡ p → rowOf p ≡ r → r ≡ rowOf o
+pub row-told : (o p : OpCode) (r : OpRow) → o ≡ p → rowOf p ≡ r → r ≡ rowOf o
 row-told o p r = told rowOf
 
-pub byte-told : (b n : ℕ) (o : Op) → b ≡ n → opAt n ≡ o → o ≡ opAt b
+pub byte-told : (b n : ℕ) (o : OpByte) → b ≡ n → opAt n ≡ o → o ≡ opAt b
 byte-told b n o = told opAt
 
 pub form-told : (i j : Instr) (p : Parts) → i ≡ j → padded (formOf j) ≡ p → p ≡ padded (formOf i)
@@ -48,13 +48,15 @@ pub aim-told : (f g : Flow) (r : Refers) → f ≡ g → aimOf g ≡ r → r ≡
 aim-told f g r = told aimOf
 
 -- an instruction of which the opcode is told
-pub flow-told : (i : Instr) (p : Parts) (o : OpCode) (f : Flow) → p ≡ padded (formOf i) → p .0 ≡ o → flowOf (instrOf o (formOf i .regs) (p .2)) ≡ f → f ≡ flowOf i
+pub flow-told : (i : Instr) (p : Parts) (o : OpCode) (f : Flow) → p ≡ padded (formOf i) → p .0 ≡ o → flowOf (instrOf o (formOf i .regs) (p .2)) ≡ f →
+    f ≡ flowOf i
 flow-told i p o f parts op h =
     let of : o ≡ formOf i .op = sym op ∙ ap (λ (q : Parts). q .0) parts in
     sym h ∙ (λ j. flowOf (instrOf (of j) (formOf i .regs) (parts j .2))) ∙ ap flowOf (rebuilt i)
 
 -- and its kind
-pub refers-told : (i : Instr) (p : Parts) (k l : Kind) (r : Refers) → p ≡ padded (formOf i) → k ≡ kindOf (p .0) → k ≡ l → refersBy l (p .2) (flowOf i) ≡ r → r ≡ refersTo i
+pub refers-told : (i : Instr) (p : Parts) (k l : Kind) (r : Refers) → p ≡ padded (formOf i) → k ≡ kindOf (p .0) → k ≡ l → refersBy l (p .2) (flowOf i) ≡ r →
+    r ≡ refersTo i
 unfolding refersTo
 refers-told i p k l r parts kind is h =
     let of : l ≡ kindOf (formOf i .op) = sym is ∙ kind ∙ ap (λ (q : Parts). kindOf (q .0)) parts in

@@ -4,23 +4,24 @@ use mathlib.Core.Path.{_≡_, refl}
 use mathlib.Core.List.{List, [], _∷_}
 use lib.Dec.{eqb}
 use Rattle.words.specs.Choice.{pick}
+use Rattle.words.specs.Lists.{nth}
 use Rattle.isa.specs.declared.opcode.OpCode.{OpCode}
 use Rattle.isa.specs.declared.opcode.OpCode.the-variants as op
-use Rattle.isa.specs.declared.opcode.Op.the-variants.{Known}
-use Rattle.isa.specs.Table.{rowOf, byteOf, regsOf, wideOf, find, opAt}
-use Rattle.isa.specs.Forms.{Form, form, formOf, instrOf, at}
+use Rattle.isa.specs.declared.opcode.OpByte.the-variants.{Known}
+use Rattle.isa.specs.Table.{rowOf, byteOf, regsOf, wideOf, opWith, opAt}
+use Rattle.isa.specs.Forms.{Form, form, formOf, instrOf}
 
 -- n registers of a list from place k on
 abbrev pub from : (k n : ℕ) → List ℕ → List ℕ
 from k zero r = []
-from k (suc n) r = at r k ∷ from (suc k) n r
+from k (suc n) r = nth r k ∷ from (suc k) n r
 
 -- what an opcode keeps of a list of registers and a number
 abbrev pub kept : OpCode → List ℕ → ℕ → Form
 kept o r n = form o (from 0 (regsOf o) r) (pick (eqb (wideOf o) 0) 0 n)
 
 pub computed : (o : OpCode) → (opAt (byteOf o) ≡ Known o) × ((r : List ℕ) (n : ℕ) → formOf (instrOf o r n) ≡ kept o r n)
-unfolding rowOf find opAt formOf instrOf
+unfolding rowOf opWith opAt formOf instrOf
 computed o =
     elim o [
       | op.Halt ↦ (refl, λ r n. refl)

@@ -7,7 +7,7 @@ use Rattle.tables.specs.Rows.{Row, rows, insert}
 use Rattle.tables.specs.Table.{Table}
 
 -- u is t, whose first m rows were a table, after x was put in; it has r rows now
-pub record Put (x : Row) (m : ℕ) (t u : List ℕ) (r : ℕ) : Type 0 where
+pub record RowPut (x : Row) (m : ℕ) (t u : List ℕ) (r : ℕ) : Type 0 where
   pub table : Table 40 r u
   pub is : rows 40 r u ≡ insert x (rows 40 m t)
   pub rest : drop (r * 40) u ≡ drop (r * 40) t

@@ -11,12 +11,11 @@ use lib.Seq.{length-take-le}
 use borrow.Author.Tests.{leb-true, leb-false, eqb-true}
 use Rattle.words.specs.Choice.{pick}
 use Rattle.words.specs.Bytes.{num}
-use Rattle.container.specs.Container.{Container}
-use Rattle.container.specs.Canonical.{tag}
+use Rattle.container.specs.Container.{Container, tag}
 use Rattle.container.specs.Reader.{Parsed, short, read, part, number, counted, entries, container, Read, done, refused, whole, readOf, layoutOf, readingOf}
 use Rattle.container.specs.LaidOut.{LaidOut}
 use Rattle.container.specs.ParseLaws.{part-there, part-short}
-use Rattle.container.specs.EntryTold.{both-read, after, counted-told}
+use Rattle.container.specs.EntryToldLaws.{both-read, after, counted-told}
 use Rattle.container.specs.EntriesLaws.{entries-told}
 use Rattle.container.specs.declared.reader.Layout.{Layout}
 use Rattle.container.specs.declared.reader.ReadError.{ReadError}

@@ -13,22 +13,22 @@ use Rattle.words.specs.Bytes.{num, beBytes, Bytes}
 use Rattle.words.specs.BytesLaws.{length-beBytes}
 use Rattle.words.specs.BytesTheorems.{bytes-drop, read-back-all, write-back, num-below}
 use Rattle.isa.specs.declared.opcode.OpCode.{OpCode}
-use Rattle.isa.specs.declared.opcode.Op.{Op}
-use Rattle.isa.specs.declared.opcode.Op.the-variants.{Known, Unknown}
+use Rattle.isa.specs.declared.opcode.OpByte.{OpByte}
+use Rattle.isa.specs.declared.opcode.OpByte.the-variants.{Known, Unknown}
 use Rattle.isa.specs.declared.instr.Instr.{Instr}
 use Rattle.isa.specs.declared.codec.Decoded.the-variants.{Done}
 use Rattle.isa.specs.declared.codec.FirstBad.{FirstBad}
 use Rattle.isa.specs.declared.codec.FirstBad.the-variants.{Bad, NoneBad}
 use Rattle.isa.specs.declared.codec.Encoded.the-variants as encoded
 use Rattle.isa.specs.Table.{regsOf, wideOf, lengthOf, opAt}
-use Rattle.isa.specs.TableLaws.{known, small, opcode-byte}
+use Rattle.isa.specs.TableLaws.{known, row-bounds, opcode-byte}
 use Rattle.isa.specs.Forms.{Form, form, formOf, instrOf}
-use Rattle.isa.specs.Computed.{from}
+use Rattle.isa.specs.ComputedLaws.{from}
 use Rattle.isa.specs.FormLaws.{from-take, taken, rebuilt, same-regs, length-regs}
-use Rattle.isa.specs.Codec.{firstBad, unless, operandsOf, afterOpcode, decodeList, decodeAt, bytesOf, encodedWith, encodedOf, outputAfter, outputOf}
+use Rattle.isa.specs.Codec.{firstBad, unless, operandsOf, afterOpcode, decodeList, decodeAt, instrBytes, encodedWith, encodedOf, outputAfter, outputOf}
 use Rattle.isa.specs.DecodeLaws.{refusalBy, refusal-is}
 use Rattle.isa.specs.EncodeLaws.{length-bytes}
-use Rattle.isa.specs.Range.{InRange, Stands}
+use Rattle.isa.specs.Range.{InRange, StandsIn}
 
 -- ---- registers below 16 are those among which none is bad
 
@@ -76,8 +76,8 @@ operands-back i ok t =
     ∙ ap (λ (j : Instr). Done j (lengthOf o)) (ap (instrOf o s) value ∙ same-regs o s r n same ∙ rebuilt i)
 
 -- an instruction in range, followed by anything, decodes to itself and its length
-pub encode-decode : (i : Instr) → InRange i → (t : List ℕ) → decodeList (bytesOf i ++ t) ≡ Done i (length (bytesOf i))
-unfolding decodeList afterOpcode bytesOf
+pub encode-decode : (i : Instr) → InRange i → (t : List ℕ) → decodeList (instrBytes i ++ t) ≡ Done i (length (instrBytes i))
+unfolding decodeList afterOpcode instrBytes
 encode-decode i ok t =
     let o = formOf i .op in
     let b = beBytes (wideOf o) (formOf i .number) in
@@ -85,25 +85,25 @@ encode-decode i ok t =
 
 -- ---- what is decoded is encoded again
 
-opcode-of : (x : Op) (b : ℕ) (s : List ℕ) (i : Instr) (n : ℕ) → afterOpcode x b s ≡ Done i n → (o : OpCode) × (x ≡ Known o) × (operandsOf o s ≡ Done i n)
+opcode-of : (x : OpByte) (b : ℕ) (s : List ℕ) (i : Instr) (n : ℕ) → afterOpcode x b s ≡ Done i n → (o : OpCode) × (x ≡ Known o) × (operandsOf o s ≡ Done i n)
 unfolding afterOpcode
 opcode-of (Known o) b s i n h = (o, refl, h)
 opcode-of Unknown b s i n h = absurd (let z : _≡_ {A = ℕ} 0 1 = cc in omega arith)
 
 -- what decoded operands tell
-pub record Read (o : OpCode) (s : List ℕ) (i : Instr) (n : ℕ) : Type 0 where
+pub record OperandsRead (o : OpCode) (s : List ℕ) (i : Instr) (n : ℕ) : Type 0 where
   pub good : firstBad (take (regsOf o) s) ≡ NoneBad
   pub room : regsOf o + wideOf o ≤ length s
   pub instr : instrOf o s (num (take (wideOf o) (drop (regsOf o) s))) ≡ i
   pub size : lengthOf o ≡ n
 
-operands-read : (o : OpCode) (s : List ℕ) (i : Instr) (n : ℕ) → operandsOf o s ≡ Done i n → Read o s i n
+operands-read : (o : OpCode) (s : List ℕ) (i : Instr) (n : ℕ) → operandsOf o s ≡ Done i n → OperandsRead o s i n
 unfolding operandsOf unless
 operands-read o s i n h =
     by (firstBad (take (regsOf o) s)) (leb (regsOf o + wideOf o) (length s)) refl refl (rw (refusal-is (regsOf o) (wideOf o) s) at h)
   where
     by : (f : FirstBad) (t : Bool) → firstBad (take (regsOf o) s) ≡ f → leb (regsOf o + wideOf o) (length s) ≡ t →
-        unless (refusalBy f t) (Done (instrOf o s (num (take (wideOf o) (drop (regsOf o) s)))) (lengthOf o)) ≡ Done i n → Read o s i n
+        unless (refusalBy f t) (Done (instrOf o s (num (take (wideOf o) (drop (regsOf o) s)))) (lengthOf o)) ≡ Done i n → OperandsRead o s i n
     by (Bad b) t p q k = absurd (let z : _≡_ {A = ℕ} 0 1 = cc in omega arith)
     by NoneBad true p q k = record { good = p; room = leb-true (regsOf o + wideOf o) (length s) q; instr = cc; size = cc }
     by NoneBad false p q k = absurd (let z : _≡_ {A = ℕ} 0 1 = cc in omega arith)
@@ -122,8 +122,8 @@ module _ (b : ℕ) (s : List ℕ) (all : Bytes (b ∷ s)) (o : OpCode) (found : 
   after : Bytes (drop (regsOf o) s)
   after k = rw getD-drop (all (suc (regsOf o + k)))
 
-  stands-here : (i : Instr) (n : ℕ) → Read o s i n → Stands i n (b ∷ s) 0
-  unfolding bytesOf
+  stands-here : (i : Instr) (n : ℕ) → OperandsRead o s i n → StandsIn i n (b ∷ s) 0
+  unfolding instrBytes
   stands-here i n r =
       let k = regsOf o in
       let w = wideOf o in
@@ -133,7 +133,7 @@ module _ (b : ℕ) (s : List ℕ) (all : Bytes (b ∷ s)) (o : OpCode) (found : 
       let is : formOf i ≡ form o (take k s) (pick (eqb w 0) 0 v) =
       ap formOf (sym (r .instr)) ∙ taken o s v ∙ rw (from-take k s there) in
       let long : lengthOf o ≡ suc (k + w) = omega arith in
-      let bytes : bytesOf i ≡ take n (b ∷ s) =
+      let bytes : instrBytes i ≡ take n (b ∷ s) =
       rw (is, no-number w v, write-back w (drop k s) left after, ← opcode-byte b o found, ← r .size, long, ← take-add k w s) in
       record {
         in-range = record {
@@ -144,7 +144,7 @@ module _ (b : ℕ) (s : List ℕ) (all : Bytes (b ∷ s)) (o : OpCode) (found : 
         size = sym (ap length bytes ∙ length-take-le n (b ∷ s) (omega (arith, r .size, r .room)));
       }
 
-decoded-list : (s : List ℕ) (i : Instr) (n : ℕ) → Bytes s → decodeList s ≡ Done i n → Stands i n s 0
+decoded-list : (s : List ℕ) (i : Instr) (n : ℕ) → Bytes s → decodeList s ≡ Done i n → StandsIn i n s 0
 unfolding decodeList
 decoded-list [] i n all h = absurd (let z : _≡_ {A = ℕ} 0 1 = cc in omega arith)
 decoded-list (b ∷ s) i n all h =
@@ -152,17 +152,17 @@ decoded-list (b ∷ s) i n all h =
     stands-here b s all (x .0) (x .1) i n (operands-read (x .0) s i n (x .2))
 
 -- where decode answers an instruction and a length, the bytes of that instruction, in range, stand there
-pub decode-stands : (code : List ℕ) (place : ℕ) (i : Instr) (n : ℕ) → Bytes code → decodeAt code place ≡ Done i n → Stands i n code place
+pub decode-stands : (code : List ℕ) (place : ℕ) (i : Instr) (n : ℕ) → Bytes code → decodeAt code place ≡ Done i n → StandsIn i n code place
 unfolding decodeAt
 decode-stands code place i n all h =
     let r = decoded-list (drop place code) i n (bytes-drop place code all) h in
     record { in-range = r .in-range; bytes = r .bytes; size = r .size }
 
 -- and where they stand, decode answers them: it refuses only where no instruction in range stands
-pub stands-decode : (code : List ℕ) (place : ℕ) (i : Instr) (n : ℕ) → Stands i n code place → decodeAt code place ≡ Done i n
+pub stands-decode : (code : List ℕ) (place : ℕ) (i : Instr) (n : ℕ) → StandsIn i n code place → decodeAt code place ≡ Done i n
 unfolding decodeAt
 stands-decode code place i n r =
-    let whole : bytesOf i ++ drop n (drop place code) ≡ drop place code = rw (← r .bytes) (take-append-drop n (drop place code)) in
+    let whole : instrBytes i ++ drop n (drop place code) ≡ drop place code = rw (← r .bytes) (take-append-drop n (drop place code)) in
     rw (r .size) (rw whole at (encode-decode i (r .in-range) (drop n (drop place code))))
 
 -- the length is the opcode's, from 1 to 10, and within the code
@@ -182,7 +182,7 @@ place-list (b ∷ s) i n h =
     record {
       opcode = rw e (sym (r .size));
       least = omega (arith, r .size);
-      most = omega (arith, r .size, small (x .0) .length);
+      most = omega (arith, r .size, row-bounds (x .0) .length);
       within = omega (arith, r .size, r .room);
     }
 
@@ -195,23 +195,23 @@ decode-place code place i n h =
 -- ---- encode's answer and output
 
 -- what is in range and has room is encoded
-pub encode-done : (i : Instr) (out : List ℕ) → InRange i → length (bytesOf i) ≤ length out → encodedOf i out ≡ encoded.Done (length (bytesOf i))
+pub encode-done : (i : Instr) (out : List ℕ) → InRange i → length (instrBytes i) ≤ length out → encodedOf i out ≡ encoded.Done (length (instrBytes i))
 unfolding encodedOf encodedWith
-encode-done i out ok h = rw (below-none (formOf i .regs) (ok .regs), le-leb (length (bytesOf i)) (length out) h)
+encode-done i out ok h = rw (below-none (formOf i .regs) (ok .regs), le-leb (length (instrBytes i)) (length out) h)
 
 -- and stands in the output, which decodes to it
-pub encode-output : (i : Instr) (out : List ℕ) → InRange i → length (bytesOf i) ≤ length out → outputOf i out ≡ bytesOf i ++ drop (length (bytesOf i)) out
+pub encode-output : (i : Instr) (out : List ℕ) → InRange i → length (instrBytes i) ≤ length out → outputOf i out ≡ instrBytes i ++ drop (length (instrBytes i)) out
 unfolding outputOf outputAfter
 encode-output i out ok h = rw (encode-done i out ok h)
 
-pub encode-stands : (i : Instr) (out : List ℕ) → InRange i → length (bytesOf i) ≤ length out → decodeAt (outputOf i out) 0 ≡ Done i (length (bytesOf i))
+pub encode-stands : (i : Instr) (out : List ℕ) → InRange i → length (instrBytes i) ≤ length out → decodeAt (outputOf i out) 0 ≡ Done i (length (instrBytes i))
 unfolding decodeAt
-encode-stands i out ok h = rw (encode-output i out ok h) (encode-decode i ok (drop (length (bytesOf i)) out))
+encode-stands i out ok h = rw (encode-output i out ok h) (encode-decode i ok (drop (length (instrBytes i)) out))
 
 -- decoded bytes encode back to exactly those bytes
 pub decode-encode : (code : List ℕ) (place : ℕ) (i : Instr) (n : ℕ) (out : List ℕ) → Bytes code → decodeAt code place ≡ Done i n → n ≤ length out →
     (encodedOf i out ≡ encoded.Done n) × (outputOf i out ≡ take n (drop place code) ++ drop n out)
 decode-encode code place i n out all h room =
     let r = decode-stands code place i n all h in
-    let l : length (bytesOf i) ≤ length out = omega (arith, r .size) in
+    let l : length (instrBytes i) ≤ length out = omega (arith, r .size) in
     (rw (r .size) (encode-done i out (r .in-range) l), rw (r .bytes, r .size) (encode-output i out (r .in-range) l))

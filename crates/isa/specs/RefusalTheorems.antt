@@ -8,8 +8,8 @@ use lib.Dec.{leb}
 use lib.ListN.{length, getD, take, drop, length-drop}
 use borrow.Author.Tests.{leb-true, leb-false}
 use Rattle.isa.specs.declared.opcode.OpCode.{OpCode}
-use Rattle.isa.specs.declared.opcode.Op.{Op}
-use Rattle.isa.specs.declared.opcode.Op.the-variants.{Known, Unknown}
+use Rattle.isa.specs.declared.opcode.OpByte.{OpByte}
+use Rattle.isa.specs.declared.opcode.OpByte.the-variants.{Known, Unknown}
 use Rattle.isa.specs.declared.instr.Instr.{Instr}
 use Rattle.isa.specs.declared.codec.DecodeError.{DecodeError}
 use Rattle.isa.specs.declared.codec.DecodeError.the-variants.{UnknownOpcode, BadRegister, Truncated}
@@ -47,14 +47,15 @@ module _ (code : List ℕ) (place : ℕ) where
   with-operands : place < length code → (o : OpCode) → opAt (getD code place 0) ≡ Known o → Outcome code place
   with-operands h o k = by (firstBad (take (regsOf o) (drop (place + 1) code))) (leb (regsOf o + wideOf o) (length (drop (place + 1) code))) refl refl
     where
-      by : (f : FirstBad) (t : Bool) → firstBad (take (regsOf o) (drop (place + 1) code)) ≡ f → leb (regsOf o + wideOf o) (length (drop (place + 1) code)) ≡ t → Outcome code place
+      by : (f : FirstBad) (t : Bool) → firstBad (take (regsOf o) (drop (place + 1) code)) ≡ f → leb (regsOf o + wideOf o) (length (drop (place + 1) code)) ≡ t →
+          Outcome code place
       by (Bad b) t p q = refused (BadRegister b) (register h o k b p)
       by NoneBad true p q =
           decoded _ _ (sym (operands-done o (drop (place + 1) code) (rowOf o) refl p (leb-true _ _ q) _ _ refl refl ∙ an-opcode code place h o k))
       by NoneBad false p q =
           refused Truncated (short h o k p (omega (arith, leb-false (regsOf o + wideOf o) (length (drop (place + 1) code)) q, length-drop (place + 1) code)))
 
-  with-opcode : place < length code → (x : Op) → opAt (getD code place 0) ≡ x → Outcome code place
+  with-opcode : place < length code → (x : OpByte) → opAt (getD code place 0) ≡ x → Outcome code place
   with-opcode h (Known o) k = with-operands h o k
   with-opcode h Unknown k = refused (UnknownOpcode (getD code place 0)) (unknown h k)
 

@@ -26,8 +26,8 @@ instructionIn (decoded.Done i n) = i
 instructionIn (decoded.Refused x) = instr.Halt
 
 -- decoded at the run's place of some code
-abbrev pub ReadAt : Decoded → Run → Type 0
-ReadAt i r = (code : List ℕ) × (i ≡ decodeAt code (r .pc)) × (length code < 18446744073709551616)
+abbrev pub DecodedAt : Decoded → Run → Type 0
+DecodedAt i r = (code : List ℕ) × (i ≡ decodeAt code (r .pc)) × (length code < 18446744073709551616)
 
 -- the turn x is a step with i from a run that is sound
 abbrev pub StepsFrom : Env → List ℕ → ℕ → RegFile → Bufs → (fetches : ℕ) → Step → Instr → Run → Type 0

@@ -1,7 +1,7 @@
 // Fetching an instruction: what decode said of it, its base price, the next address.
 ghost use mathlib.Core.Path.{_≡_};
 ghost use Prim.Native.Nat.{_+_, _<_};
-ghost use Rattle.interp.specs.Fetched.{instructionIn, ReadAt, Onward, Fetches};
+ghost use Rattle.interp.specs.Fetched.{instructionIn, DecodedAt, Onward, Fetches};
 ghost use Rattle.isa.specs.declared.codec.Decoded.the-variants as Decoded;
 use isa::codec::Decoded;
 use isa::instr::Instr;
@@ -40,7 +40,7 @@ fn onward(i: Instr, n: usize, run: Run) -> Fetched
 
 // What was decoded at the run's place. It counts as fetched whatever comes of it.
 pub fn fetch(d: Decoded, run: Run) -> Fetched
-    requires { ⌜ (run .fetches < run .meter .used) × ReadAt d run ⌝ }
+    requires { ⌜ (run .fetches < run .meter .used) × DecodedAt d run ⌝ }
     ensures { λ r. ⌜ Fetches d run r ⌝ }
 {
     let Decoded::Done(i, n) = d else {

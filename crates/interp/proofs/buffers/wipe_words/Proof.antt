@@ -9,41 +9,39 @@ use Rattle.interp.specs.BufferLaws.{all-wiped}
 use Rattle.interp.proofs.buffers.wipe_words.Statement.{statement}
 use Rattle.interp.proofs.buffers.wipe_words.Tie as tie
 
+-- so many words are zeroed
 abbrev Inv-loop : tie.InvT-loop
 Inv-loop t₀ i₀ t i = (i ≤ length t₀) × (t ≡ paste t₀ 0 (replicate (length t₀ - 0) 0) (i - 0)) × (length t ≡ length t₀)
 
 abbrev μ-loop : tie.MeasureT-loop
 μ-loop t₀ i₀ t i = length t₀ - i
 
-loop-holds : tie.Need-loop-holds Inv-loop μ-loop
-loop-holds c = let a = c .args in (omega arith, paste-none (a .t .now) (replicate (length (a .t .now) - 0) 0) 0 (0 - 0) (omega arith), refl)
+begins : tie.Need-loop-holds Inv-loop μ-loop
+begins c = let t = c .args .t .now in (omega arith, paste-none t (replicate (length t - 0) 0) 0 (0 - 0) (omega arith), refl)
 
-mul-t : tie.Need-mul-t Inv-loop μ-loop
-mul-t c = omega arith
+one-more : tie.Need-loop-again Inv-loop μ-loop
+one-more c =
+    let turn = c .before .loop in
+    let t = c .before .before .args .t .now in
+    (omega arith, clear-turn t (turn .t) 0 (turn .i) (omega arith) (omega arith) (turn .inv .1), simp length-set (turn .inv .2))
 
-slice-write-t : tie.Need-slice-write-t Inv-loop μ-loop
-slice-write-t c = omega arith
-
-add-i : tie.Need-add-i Inv-loop μ-loop
-add-i c = omega arith
-
-loop-less : tie.Need-loop-less Inv-loop μ-loop
-loop-less c = omega arith
-
-loop-again : tie.Need-loop-again Inv-loop μ-loop
-loop-again c =
-    let l = c .before .loop in
-    let a = c .before .before .args in
-    (omega arith, clear-turn (a .t .now) (l .t) 0 (l .i) (omega arith) (omega arith) (l .inv .1), simp length-set (l .inv .2))
-
-same-length : tie.Need-same-length Inv-loop μ-loop
-same-length c = c .before .loop .inv .2
-
-returns : tie.Need-returns Inv-loop μ-loop
-returns c =
-    let l = c .before .loop in
-    let a = c .before .before .args in
-    all-wiped (a .t .now) (l .t) (clear-end (a .t .now) (l .t) 0 (l .i) (omega arith) (omega arith) (l .inv .1))
+all-zero : tie.Need-returns Inv-loop μ-loop
+all-zero c =
+    let end = c .before .loop in
+    let t = c .before .before .args .t .now in
+    all-wiped t (end .t) (clear-end t (end .t) 0 (end .i) (omega arith) (omega arith) (end .inv .1))
 
 pub wipe-words-spec : {M : Type 1} → statement M
-wipe-words-spec = tie.close (tie.spec Inv-loop μ-loop loop-holds mul-t slice-write-t add-i loop-less loop-again same-length returns)
+wipe-words-spec =
+    tie.close
+    (tie.spec
+    Inv-loop
+    μ-loop
+    begins
+    (λ c. omega arith)
+    (λ c. omega arith)
+    (λ c. omega arith)
+    (λ c. omega arith)
+    one-more
+    (λ c. c .before .loop .inv .2)
+    all-zero)

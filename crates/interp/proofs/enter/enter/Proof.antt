@@ -19,9 +19,12 @@ abbrev ran : tie.After-finish → tie.After-exec
 ran c =
     c .before .before .before .before .before .before .before .before .before .before .before .before .before .before .before .before .before .before .before .before .before .before .before .before .before .before
 
+abbrev begun-for : tie.After-exec-arg9 → tie.After-begin
+begun-for c =
+    c .before .before .before .before .before .before .before .before .before .before .before .before .before .before .before .before .before .before .before .before .before .before .before .before .before .before .before
+
 abbrev begun : tie.After-exec → tie.After-begin
-begun c =
-    c .before .before .before .before .before .before .before .before .before .before .before .before .before .before .before .before .before .before .before .before .before .before .before .before .before .before .before .before
+begun c = begun-for (c .before)
 
 abbrev first : tie.After-begin → tie.After-first-run
 first c = c .before .before .before .before .before .before .before .before .before .before
@@ -112,7 +115,7 @@ sizes-end c =
 
 exec-requires : tie.Need-exec-requires
 exec-requires c κs =
-    let b = c .before .before .before .before .before .before .before .before .before .before .before .before .before .before .before .before .before .before .before .before .before .before .before .before .before .before .before in
+    let b = begun-for c in
     let f = first b in
     starting (start (cut f) .pre) (cut-so f) (b .begin .ensures) (f .first-run .ensures) (b .begin .kept .1 .1 .0)
 

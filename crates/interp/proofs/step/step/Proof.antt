@@ -4,35 +4,32 @@ use Rattle.interp.specs.StepLaws.{stack-holds, halt-steps, nop-steps, re
 use Rattle.interp.proofs.step.step.Statement.{statement}
 use Rattle.interp.proofs.step.step.Tie as tie
 
+abbrev start : tie.After-action-of → tie.Start
+start c = c .before .before .before .before .before .before .before .before .before .before .before .before .before .before .before .before .before .before .before .before
+
 step-requires : tie.Need-step-requires
-step-requires c κs =
-    let start = c .before .before .before .before .before .before .before .before .before .before .before .before .before .before .before .before .before .before .before .before .before .before .before .before .before in
-    stack-holds _ _ _ (start .pre)
+step-requires c κs = stack-holds _ _ _ (start (c .before .before .before .before .before) .pre)
 
 step-requires-2 : tie.Need-step-requires-2
-step-requires-2 c κs =
-    let start = c .before .before .before .before .before .before .before .before .before .before .before .before .before .before .before .before .before .before .before .before .before .before .before .before in
-    stack-holds _ _ _ (start .pre)
+step-requires-2 c κs = stack-holds _ _ _ (start (c .before .before .before .before) .pre)
 
 access-requires : tie.Need-access-requires
 access-requires c κs =
-    let start = c .before .before .before .before .before .before .before .before .before .before .before .before .before .before .before .before .before .before .before .before .before .before .before .before .before .before .before .before .before in
-    let x = start .pre in (x .suits .store, x .suits .loader, x .sound .tables)
+    let x = start (c .before .before .before .before .before .before .before .before .before) .pre in
+    (x .suits .store, x .suits .loader, x .sound .tables)
 
 post-requires : tie.Need-post-requires
 post-requires c κs =
-    let start = c .before .before .before .before .before .before .before .before .before .before .before .before .before .before .before .before .before .before .before .before .before .before .before .before .before in
-    let x = start .pre .sound in (x .logged .within, x .counted .no-more, x .counted .posted, x .sized .memory)
+    let x = start (c .before .before .before .before .before) .pre .sound in
+    (x .logged .within, x .counted .no-more, x .counted .posted, x .sized .memory)
 
 hash-requires : tie.Need-hash-requires
 hash-requires c κs =
-    let start = c .before .before .before .before .before .before .before .before .before .before .before .before .before .before .before .before .before .before .before .before .before .before .before .before .before .before in
-    let x = start .pre .sound in (x .replies, x .counted .keyed, (_, _, _, x .tables))
+    let x = start (c .before .before .before .before .before .before) .pre .sound in
+    (x .replies, x .counted .keyed, (_, _, _, x .tables))
 
 check-requires : tie.Need-check-requires
-check-requires c κs =
-    let start = c .before .before .before .before .before .before .before .before .before .before .before .before .before .before .before .before .before .before .before .before .before .before .before .before in
-    start .pre .sound .replies
+check-requires c κs = start (c .before .before .before .before) .pre .sound .replies
 
 returns : tie.Need-returns
 returns c = rw (c .halt .ensures) (halt-steps _ _ _ _ _ (c .before .before .before .action-of .ensures) (c .before .enum-told .given .1) _)
@@ -46,44 +43,44 @@ returns-3 c = register-steps _ _ _ _ _ (c .before .before .before .action-of .en
 returns-4 : tie.Need-returns-4
 returns-4 c =
     let stepping = c .before .before .before .before in
-    let a-at = stepping .before .before .before .before in
-    let grouped = a-at .before .before in
-    move-steps _ _ _ _ _ (grouped .action-of .ensures) _ _ _ _ _ _ _ _ (a-at .a .given .1) (stepping .step .ensures)
+    let told = stepping .before .before .before .before in
+    let grouped = told .before .before in
+    move-steps _ _ _ _ _ (grouped .action-of .ensures) _ _ _ _ _ _ _ _ (told .a .given .1) (stepping .step .ensures)
 
 returns-5 : tie.Need-returns-5
 returns-5 c =
-    let step2-at = c .before .before in
-    let a2-at = step2-at .before .before .before in
-    let grouped = a2-at .before .before in
-    jump-steps _ _ _ _ _ (grouped .action-of .ensures) _ _ _ _ _ _ _ (a2-at .a2 .given .1) (step2-at .step2 .ensures)
+    let jumping = c .before .before in
+    let told = jumping .before .before .before in
+    let grouped = told .before .before in
+    jump-steps _ _ _ _ _ (grouped .action-of .ensures) _ _ _ _ _ _ _ (told .a2 .given .1) (jumping .step2 .ensures)
 
 returns-6 : tie.Need-returns-6
 returns-6 c =
-    let access-at = c .before .before .before .before .before .before in
-    let a3-at = access-at .before .before .before .before .before .before .before .before in
-    let grouped = a3-at .before .before in
-    access-steps _ _ _ _ _ (grouped .action-of .ensures) _ _ _ _ _ _ _ _ _ _ _ _ _ (a3-at .a3 .given .1) (access-at .access .ensures)
+    let accessing = c .before .before .before .before .before .before in
+    let told = accessing .before .before .before .before .before .before .before .before in
+    let grouped = told .before .before in
+    access-steps _ _ _ _ _ (grouped .action-of .ensures) _ _ _ _ _ _ _ _ _ _ _ _ _ (told .a3 .given .1) (accessing .access .ensures)
 
 returns-7 : tie.Need-returns-7
 returns-7 c =
-    let post-at = c .before .before in
-    let a4-at = post-at .before .before .before .before in
-    let grouped = a4-at .before .before in
-    post-steps _ _ _ _ _ (grouped .action-of .ensures) _ _ _ _ _ _ _ (a4-at .a4 .given .1) (post-at .post .ensures)
+    let posting = c .before .before in
+    let told = posting .before .before .before .before in
+    let grouped = told .before .before in
+    post-steps _ _ _ _ _ (grouped .action-of .ensures) _ _ _ _ _ _ _ (told .a4 .given .1) (posting .post .ensures)
 
 returns-8 : tie.Need-returns-8
 returns-8 c =
-    let hash-at = c .before .before .before .before .before .before in
-    let a5-at = hash-at .before .before .before .before .before in
-    let grouped = a5-at .before .before in
-    hash-steps _ _ _ _ _ (grouped .action-of .ensures) _ _ _ _ _ _ _ _ _ _ _ _ _ _ _ (a5-at .a5 .given .1) (hash-at .hash .ensures)
+    let hashing = c .before .before .before .before .before .before in
+    let told = hashing .before .before .before .before .before in
+    let grouped = told .before .before in
+    hash-steps _ _ _ _ _ (grouped .action-of .ensures) _ _ _ _ _ _ _ _ _ _ _ _ _ _ _ (told .a5 .given .1) (hashing .hash .ensures)
 
 returns-9 : tie.Need-returns-9
 returns-9 c =
-    let check-at = c .before .before in
-    let a6-at = check-at .before .before .before in
-    let grouped = a6-at .before .before in
-    check-steps _ _ _ _ _ (grouped .action-of .ensures) _ _ _ _ _ _ _ (a6-at .a6 .given .1) (check-at .check .ensures)
+    let checking = c .before .before in
+    let told = checking .before .before .before in
+    let grouped = told .before .before in
+    check-steps _ _ _ _ _ (grouped .action-of .ensures) _ _ _ _ _ _ _ (told .a6 .given .1) (checking .check .ensures)
 
 pub step-spec : {M : Type 1} → statement M
 step-spec =

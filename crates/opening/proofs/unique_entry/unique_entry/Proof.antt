@@ -27,30 +27,37 @@ loop-holds c = seek-begins _ _ _ _
 returns : tie.Need-returns Inv-loop μ-loop
 returns c =
     let reading = c .before .before in
-    let turn = reading .before .before in
-    λ es t k. absurd (none-short (turn .loop .inv) (reading .before .loop-test .taken) (entry-short _ (turn .loop .at) (sym (c .enum-told .given .1) ∙ reading .entry-at .ensures)) es t k)
+    let head = reading .before .before in
+    λ es t k. absurd (none-short (head .loop .inv) (reading .before .loop-test .taken)
+    (entry-short _ (head .loop .at) (sym (c .enum-told .given .1) ∙ reading .entry-at .ensures)) es t k)
+
+-- ---- places: from what a turn found to its head, and to the start
+
+abbrev turn : tie.After-known-told Inv-loop μ-loop → tie.At-loop Inv-loop μ-loop
+turn c = c .before .before .before .before .before
+
+abbrev start : tie.After-known-told Inv-loop μ-loop → tie.Start Inv-loop μ-loop
+start c = turn c .before .before
 
 -- the entry that a turn found
-entry-of : (c : tie.After-known-told Inv-loop μ-loop) → EntryFound (now (c .before .before .before .before .before .before .before .args .s)) (c .before .before .before .before .before .loop .at) (c .before .e .given .0 .0)
+entry-of : (c : tie.After-known-told Inv-loop μ-loop) → EntryFound (now (start c .args .s)) (turn c .loop .at) (c .before .e .given .0 .0)
 entry-of c =
     let told = c .before in
-    let reading = told .before .before in
-    let turn = reading .before .before in
-    entry-found _ (turn .loop .at) _ (sym (told .e .given .1) ∙ reading .entry-at .ensures)
+    entry-found _ (turn c .loop .at) _ (sym (told .e .given .1) ∙ told .before .before .entry-at .ensures)
 
 sub-more : tie.Need-sub-more Inv-loop μ-loop
 sub-more c = omega arith
 
 -- what was found behind the first entry with the selector
+abbrev found : tie.After-find Inv-loop μ-loop → tie.After-known-told Inv-loop μ-loop
+found c = c .before .before .before
+
 behind : (c : tie.After-find Inv-loop μ-loop) (o : FirstMatch) → c .find .result ≡ o → (es : List Entry) (t : List ℕ) →
-    entries (c .before .before .before .before .before .before .before .before .before .before .args .n) (drop (c .before .before .before .before .before .before .before .before .before .before .args .first) (now (c .before .before .before .before .before .before .before .before .before .before .args .s))) ≡ read es t →
-    SoughtTold (now (c .before .before .before .before .before .before .before .before .before .before .args .s)) (c .before .before .before .before .before .before .before .before .before .before .args .selector) es (soughtBy (c .before .before .before .before .e .given .0 .0) o)
+    let a = start (found c) .args in
+    entries (a .n) (drop (a .first) (now (a .s))) ≡ read es t → SoughtTold (now (a .s)) (a .selector) es (soughtBy (found c .before .e .given .0 .0) o)
 behind c o e es t k =
-    let same = c .before in
-    let found = same .before .before in
-    let tested = found .before .before .before .before in
-    let turn = tested .before in
-    matched (turn .loop .inv) (tested .loop-test .taken) _ (entry-of found) (same .if1 .taken) _ (c .find .ensures) es t k o e
+    let tested = found c .before .before .before .before in
+    matched (turn (found c) .loop .inv) (tested .loop-test .taken) _ (entry-of (found c)) (c .before .if1 .taken) _ (c .find .ensures) es t k o e
 
 returns-2 : tie.Need-returns-2 Inv-loop μ-loop
 returns-2 c = behind (c .before .before) _ (c .enum-told2 .given .1)
@@ -63,10 +70,8 @@ loop-less c = omega arith
 
 loop-again : tie.Need-loop-again Inv-loop μ-loop
 loop-again c =
-    let found = c .before .before in
-    let tested = found .before .before .before .before in
-    let turn = tested .before in
-    seek-on (turn .loop .inv) (tested .loop-test .taken) _ (entry-of found) (c .if1 .left)
+    let read = c .before .before in
+    seek-on (turn read .loop .inv) (read .before .before .before .before .loop-test .taken) _ (entry-of read) (c .if1 .left)
 
 returns-4 : tie.Need-returns-4 Inv-loop μ-loop
 returns-4 c = none-left (c .before .loop .inv) (c .loop-test .left)

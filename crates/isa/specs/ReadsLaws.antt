@@ -1,13 +1,9 @@
 -- What the proofs of reads at a place cite. Assumes nothing.
 use Prim.Native.Nat.{ℕ, _+_, _≤_, _<_}
-use mathlib.Core.Path.{_≡_, refl, sym, ap, _∙_}
-use mathlib.Core.Bool.{Bool, true, false}
+use mathlib.Core.Path.{_≡_, sym, _∙_}
 use mathlib.Core.List.{List}
-use native.Mathlib.Omega.{arith}
-use lib.Dec.{ltb}
 use lib.ListN.{length, getD}
-use borrow.Author.Tests.{lt-ltb, le-ltb, ltb-true, ltb-false}
-use Rattle.words.specs.Choice.{pick}
+use borrow.Author.Tests.{lt-ltb, le-ltb}
 use Rattle.isa.specs.declared.codec.DecodeError.{DecodeError}
 use Rattle.isa.specs.declared.codec.DecodeError.the-variants.{BadRegister, Truncated}
 use Rattle.isa.specs.declared.codec.GotByte.{GotByte}
@@ -35,27 +31,3 @@ module _ (code : List ℕ) (at : ℕ) where
 
     pub reg-missing : (x : DecodeError) → r .got ≡ Refused x → r ≡ regRead code at
     reg-missing x k = (λ i. reads (k i) (r .at)) ∙ reg-by (Refused x) k
-
--- a byte that was read, and what a read that got none says of the place
-pub record ByteFound (code : List ℕ) (at b next : ℕ) : Type 0 where
-  pub inside : at < length code
-  pub byte : getD code at 0 ≡ b
-  pub after : next ≡ at + 1
-
-module _ (code : List ℕ) (at : ℕ) (r : ReadAt) (e : r ≡ byteRead code at) where
-  abbrev picked : Bool → ReadAt
-  picked t = pick t (reads (Byte (getD code at 0)) (at + 1)) (reads (Refused Truncated) at)
-
-  pub got-byte : (b : ℕ) → r .got ≡ Byte b → ByteFound code at b (r .at)
-  got-byte b k = go (ltb at (length code)) refl (sym (ap (λ (x : ReadAt). x .got) e) ∙ k) (ap (λ (x : ReadAt). x .at) e)
-    where
-      go : (t : Bool) → ltb at (length code) ≡ t → picked t .got ≡ Byte b → r .at ≡ picked t .at → ByteFound code at b (r .at)
-      go true t g n = let w : getD code at 0 ≡ b = cc in record { inside = ltb-true at (length code) t; byte = w; after = n }
-      go false t g n = absurd (let z : _≡_ {A = ℕ} 0 1 = cc in omega arith)
-
-  pub got-none : (x : DecodeError) → r .got ≡ Refused x → length code ≤ at
-  got-none x k = go (ltb at (length code)) refl (sym (ap (λ (x : ReadAt). x .got) e) ∙ k)
-    where
-      go : (t : Bool) → ltb at (length code) ≡ t → picked t .got ≡ Refused x → length code ≤ at
-      go true t g = absurd (let z : _≡_ {A = ℕ} 0 1 = cc in omega arith)
-      go false t g = ltb-false at (length code) t

@@ -9,10 +9,23 @@ use lib.Dec.{leb}
 use lib.ListN.{length}
 use Rattle.words.specs.Choice.{pick}
 use Rattle.effects.specs.Log.{Effect}
-use Rattle.effects.specs.Targets.{targetOf}
+use Rattle.effects.specs.Targets.{Target, targetOf, knownIn, anyTarget}
 use Rattle.effects.specs.Counts.{events}
 use Rattle.machine.specs.PostRules.{targetPrice, eventPrice}
 use Rattle.ops_posts.specs.EffectRules.{effect, laterPrice}
+
+-- a target's price by what the log holds: it, another, or none
+pub known-free : (t : Target) (es : List Effect) → knownIn t es ≡ true → 0 ≡ targetPrice (some t) es
+unfolding targetPrice
+known-free t es k = rw k
+
+pub another-paid : (t : Target) (es : List Effect) → knownIn t es ≡ false → anyTarget es ≡ true → 227000 ≡ targetPrice (some t) es
+unfolding targetPrice
+another-paid t es k a = rw (k, a)
+
+pub first-free : (t : Target) (es : List Effect) → knownIn t es ≡ false → anyTarget es ≡ false → 0 ≡ targetPrice (some t) es
+unfolding targetPrice
+first-free t es k a = rw (k, a)
 
 pub event-small : (n v : ℕ) → v ≡ pick (leb 4 n) 6250 0 → v ≤ 6250
 event-small n v h = go (leb 4 n) h

@@ -1,10 +1,12 @@
 -- `replies::reply::good` meets its contract: after each test the tests that are left decide. Assumes nothing.
-use mathlib.Core.Path.{_≡_, sym, _∙_}
+use mathlib.Core.Path.{_≡_, sym, ap, _∙_}
+use mathlib.Core.Bool.{Bool}
 use mathlib.Core.List.{List}
 use Prim.Native.Nat.{ℕ}
 use native.Mathlib.Omega.{arith}
 use borrow.Author.Needs.{needs}
 use borrow.Author.Tests.{le-leb, lt-leb, eq-eqb, ne-eqb, not-true, not-false}
+use Rattle.words.specs.Choice.{both}
 use Rattle.replies.specs.Reply.{goodReply}
 use Rattle.replies.specs.Walks.{afterOutcome, afterRegister, afterRegion, afterZeros}
 use Rattle.replies.specs.ReplyLaws.{good-walked, region-length}
@@ -42,7 +44,9 @@ past-region : (c : tie.Else3) → goodReply (row (at-region c)) ≡ afterRegion 
 past-region c = past-register (c .before .before) ∙ rw (sym (c .before .region-fits .ensures) ∙ not-false _ (c .if3 .left))
 
 past-zeros : (c : tie.Else4) → goodReply (row (at-zeros c)) ≡ afterZeros (row (at-zeros c)) (reply (at-zeros c))
-past-zeros c = past-region (c .before .before .before) ∙ rw (sym (c .before .zero-from .ensures) ∙ not-false _ (c .if4 .left))
+past-zeros c =
+    past-region (c .before .before .before)
+    ∙ ap (λ (z : Bool). both z (afterZeros (row (at-zeros c)) (reply (at-zeros c)))) (sym (c .before .zero-from .ensures) ∙ not-false _ (c .if4 .left))
 
 returns : tie.Need-returns
 returns c =

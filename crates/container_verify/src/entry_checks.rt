@@ -46,7 +46,7 @@ fn check_entry(map: &[u8], seen: &[u64], e: EntryLayout) -> CheckAnswer
 }
 
 // The n entries from a place on, against a map of the starts. Selectors seen stand at the array's end, the last one first.
-pub fn check_entries(s: &[u8], map: &[u8], first: usize, n: usize) -> CheckAnswer
+pub(crate) fn check_entries(s: &[u8], map: &[u8], first: usize, n: usize) -> CheckAnswer
     requires { ⌜ n ≤ 256 ⌝ }
     ensures { λ r. ⌜ ((es : List Entry) (t starts : List ℕ) → entries n (drop first (now (s .entry))) ≡ read es t →
         Holds (now (map .entry)) starts → r ≡ asCheck (entriesRefusal [] starts es)) ⌝ }

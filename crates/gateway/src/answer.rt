@@ -17,7 +17,7 @@ fn copy_words(t: &mut [u64], words: &[u64])
 }
 
 // Writes an answer's words where they fit, and gives the first of them; else 48.
-pub fn put(t: &mut [u64], words: &[u64]) -> u32
+pub(crate) fn put(t: &mut [u64], words: &[u64]) -> u32
     requires { ⌜ 0 < length (now words) ⌝ }
     ensures { λ r. ⌜ answered r (now (t .exit)) ≡ answeredOf (now (words .entry)) (now (t .entry)) ⌝ }
 {

@@ -8,7 +8,7 @@ use container::entries::words_of;
 use machine::host::Host;
 use opening::open::Opened;
 
-pub fn enter(
+pub(crate) fn enter(
     o: Opened,
     limit: u64,
     host: Host,

@@ -28,7 +28,7 @@ fn put(file: RegFile, p: Put) -> RegFile
     f.set_reg(p.e, p.w)
 }
 
-pub fn exec(
+pub(crate) fn exec(
     start: Run,
     lent: TableRows,
     host: Host,

@@ -39,7 +39,7 @@ fn onward(i: Instr, n: usize, run: Run) -> Fetched
 }
 
 // What was decoded at the run's place. It counts as fetched whatever comes of it.
-pub fn fetch(d: Decoded, run: Run) -> Fetched
+pub(crate) fn fetch(d: Decoded, run: Run) -> Fetched
     requires { ⌜ (run .fetches < run .meter .used) × DecodedAt d run ⌝ }
     ensures { λ r. ⌜ Fetches d run r ⌝ }
 {

@@ -8,7 +8,7 @@ use machine::host::Host;
 use machine::run::Run;
 use machine::turn::Turn;
 
-pub fn step(
+pub(crate) fn step(
     i: Instr,
     run: Run,
     regs: &[u64],

@@ -10,7 +10,7 @@ ghost use Rattle.keys.specs.Sound.{PutIf, holds, countOr};
 use tables::store::Stored;
 
 // Whether a key has room in its table, if it is to go in.
-pub fn room(t: &[u8], n: usize, w: usize, key: &[u8], when: bool) -> bool
+pub(crate) fn room(t: &[u8], n: usize, w: usize, key: &[u8], when: bool) -> bool
     requires { ⌜ Table w n (now t) × (length (now key) ≡ 32) ⌝ }
     ensures { λ r. ⌜ ((v : ℕ) → r ≡ holds w n when (row (num (now (key .entry))) v) (now (t .entry))) ⌝ }
 {
@@ -35,7 +35,7 @@ fn counted(s: Stored, n: usize) -> usize
 }
 
 // Puts a value at a key that has room, if it is to go in.
-pub fn put_if(t: &mut [u8], n: usize, key: &[u8], v: u64, when: bool) -> usize
+pub(crate) fn put_if(t: &mut [u8], n: usize, key: &[u8], v: u64, when: bool) -> usize
     requires { ⌜ Table 40 n (now t) × (length (now key) ≡ 32) × (holds 40 n when (row (num (now key)) v) (now t) ≡ true) ⌝ }
     ensures { λ r. ⌜ PutIf 40 n r when (row (num (now (key .entry))) v) (now (t .entry)) (now (t .exit)) ⌝ }
 {
@@ -47,7 +47,7 @@ pub fn put_if(t: &mut [u8], n: usize, key: &[u8], v: u64, when: bool) -> usize
 }
 
 // Puts a key in that has room, if it is to go in.
-pub fn add_if(t: &mut [u8], n: usize, key: &[u8], when: bool) -> usize
+pub(crate) fn add_if(t: &mut [u8], n: usize, key: &[u8], when: bool) -> usize
     requires { ⌜ Table 32 n (now t) × (length (now key) ≡ 32) × (holds 32 n when (row (num (now key)) 0) (now t) ≡ true) ⌝ }
     ensures { λ r. ⌜ PutIf 32 n r when (row (num (now (key .entry))) 0) (now (t .entry)) (now (t .exit)) ⌝ }
 {

@@ -47,7 +47,7 @@ pub fn listed(list: &[u8], x: u64) -> bool
 }
 
 // Whether a key is a slot's, and the slot is declared: a slot's key is 24 zero bytes, then the slot.
-pub fn declared(list: &[u8], key: &[u8]) -> bool
+pub(crate) fn declared(list: &[u8], key: &[u8]) -> bool
     requires { ⌜ length (now key) ≡ 32 ⌝ }
     ensures { λ r. ⌜ r ≡ member (num (now (key .entry))) (wordsIn (now (list .entry))) ⌝ }
 {

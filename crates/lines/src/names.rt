@@ -43,7 +43,7 @@ fn later_name(out: &mut [u8], at: usize, number: u64) -> usize
 }
 
 // A number's name at a place, and where it ends.
-pub fn name(out: &mut [u8], at: usize, number: u64) -> usize
+pub(crate) fn name(out: &mut [u8], at: usize, number: u64) -> usize
     requires { ⌜ at + 24 ≤ length (now out) ⌝ }
     ensures { λ r. ⌜ Laid (now (out .entry)) at (nameOf number) (now (out .exit)) r ⌝ }
 {

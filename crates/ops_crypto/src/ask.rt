@@ -21,7 +21,7 @@ fn shown(length: usize) -> usize
 }
 
 // The next reply's value goes into its register and its bytes into memory; 47 when none is left, and a fault row stops with its fault.
-pub fn ask(run: Run, replies: &[u8], memory: &mut [u8]) -> Turn
+pub(crate) fn ask(run: Run, replies: &[u8], memory: &mut [u8]) -> Turn
     requires { ⌜ run .replies * 48 ≤ length (now replies) ⌝ }
     ensures keys { λ r. ⌜ (r .run .counts ≡ run .counts) × (r .run .keyed ≡ run .keyed) ⌝ }
     ensures turn { λ r. ⌜ ((e : Env) (stack log : List ℕ) (d : ℕ) (ks : tables.KeyBufs) (f : RegFile) →

@@ -52,7 +52,7 @@ fn go_with(run: Run, put: Put) -> Turn
 
 // With a base, the 32 bytes at the output, if in memory, are a key made from it. If the base is declared keyed, the key becomes authorised:
 // its price (1), the total of new entries' bytes (11), room (48).
-pub fn taint(
+pub(crate) fn taint(
     base: Base,
     out: u64,
     run: Run,

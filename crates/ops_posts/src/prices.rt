@@ -57,7 +57,7 @@ fn event_price(events: u64) -> u64
 }
 
 // A transfer costs by its target; an event also by its bytes and the events before it. One sum, as nothing comes between these prices.
-pub fn price(run: Run, log: &[u8], kind: u8, word: u64, bytes: &[u8]) -> u64
+pub(crate) fn price(run: Run, log: &[u8], kind: u8, word: u64, bytes: &[u8]) -> u64
     requires { ⌜ (run .log ≤ length (now log)) × (kind ≤ 1) × (length (now bytes) ≤ 65536) ⌝ }
     ensures { λ r. ⌜ ((es : List Effect) → FitTrailers es → take (run .log) (now (log .entry)) ≡ logOf es → run .events ≡ events es → r ≡
         laterPrice (effect kind word (now (bytes .entry))) es) ⌝ }

@@ -17,7 +17,7 @@ use machine::run::Run;
 use machine::turn::Turn;
 
 // The right to read (12), then room for a value that came from the loader (48). The tables are good beside some writable and paid keys.
-pub fn load_key(
+pub(crate) fn load_key(
     to: u8,
     run: Run,
     lent: TableRows,

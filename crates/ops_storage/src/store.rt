@@ -18,7 +18,7 @@ use machine::run::Run;
 use machine::turn::Turn;
 
 // The right to write (12), the price (1), then room in every table (48). The tables are good beside some readable keys.
-pub fn store_key(
+pub(crate) fn store_key(
     run: Run,
     lent: TableRows,
     writes: &[u8],

@@ -7,7 +7,7 @@ ghost use Rattle.replay_key_steps.specs.Sound.{Among};
 use keys::counts::Counts;
 
 // The price, the bytes of new entries, and how many keys both lists have then, or the refusal.
-pub fn authorise(
+pub(crate) fn authorise(
     c: Counts,
     slots: &[u8],
     readable: &mut [u8],

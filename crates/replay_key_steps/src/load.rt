@@ -9,7 +9,7 @@ use keys::look::TableRows;
 use keys::look::look_up;
 
 // Its value and how many values were fetched so far, or the refusal.
-pub fn load(
+pub(crate) fn load(
     n: TableRows,
     c: Counts,
     slots: &[u8],

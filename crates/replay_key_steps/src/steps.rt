@@ -47,7 +47,7 @@ fn one(
 }
 
 // The tables are small and mostly no whole number of rows, so that each runs out of room.
-pub fn steps(n: TableRows, slots: &[u8], store: &[u8], loader: &[u8], records: &[u8])
+pub(crate) fn steps(n: TableRows, slots: &[u8], store: &[u8], loader: &[u8], records: &[u8])
     requires { ⌜ Lends n (now store) (now loader) × (length (now slots) ≡ 384) ⌝ }
 {
     let mut changes = [0u8; 490];

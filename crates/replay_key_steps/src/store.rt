@@ -9,7 +9,7 @@ use keys::look::TableRows;
 use keys::store::plan_store;
 
 // The price, and how many rows the three tables have then, or the refusal.
-pub fn store(
+pub(crate) fn store(
     n: TableRows,
     c: Counts,
     slots: &[u8],

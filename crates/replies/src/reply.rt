@@ -56,7 +56,7 @@ fn region_fits(count: usize, offset: usize) -> bool
 }
 
 // What a row says.
-pub fn parse(row: &[u8]) -> Reply
+pub(crate) fn parse(row: &[u8]) -> Reply
     requires { ⌜ length (now row) ≡ 48 ⌝ }
     ensures { λ r. ⌜ r ≡ replyOf (now (row .entry)) ⌝ }
 {
@@ -73,7 +73,7 @@ pub fn parse(row: &[u8]) -> Reply
 }
 
 // Whether a row keeps to the layout.
-pub fn good(row: &[u8]) -> bool
+pub(crate) fn good(row: &[u8]) -> bool
     requires { ⌜ length (now row) ≡ 48 ⌝ }
     ensures { λ r. ⌜ r ≡ goodReply (now (row .entry)) ⌝ }
 {

@@ -111,7 +111,7 @@ pub fn alu(op: Op, x: u64, y: u64) -> Value
 }
 
 // Quotient or remainder of two words by two.
-pub fn divide_wide(want: Wanted, n: Wide, d: Wide) -> Wide
+pub(crate) fn divide_wide(want: Wanted, n: Wide, d: Wide) -> Wide
     requires { ⌜ 0 < wide d ⌝ }
     ensures { λ r. ⌜ wide r ≡ partOf want (wide n) (wide d) ⌝ }
 {

@@ -16,7 +16,7 @@ pub enum Found {
 }
 
 // Where a key stands in the first n rows of w bytes, or would stand.
-pub fn find(t: &[u8], n: usize, w: usize, key: &[u8]) -> Found
+pub(crate) fn find(t: &[u8], n: usize, w: usize, key: &[u8]) -> Found
     requires { ⌜ Table w n (now t) × (length (now key) ≡ 32) ⌝ }
     ensures { λ r. ⌜ r ≡ Rows.find (num (now (key .entry))) (rows w n (now (t .entry))) ⌝ }
 {

@@ -39,7 +39,7 @@ fn minus(a: Wide, b: Wide) -> Wide
 
 // n by d, from an estimate of the quotient, which comes down while its product with d is above n.
 // How often it comes down is no part of the contract.
-pub fn descend(n: Wide, d: Wide, from: u64) -> Divided
+pub(crate) fn descend(n: Wide, d: Wide, from: u64) -> Divided
     requires { ⌜ (0 < wide d) × (wide n / wide d ≤ from) × (from * d .hi ≤ n .hi) ⌝ }
     ensures { λ r. ⌜ Divides (wide n) (wide d) (wide (r .q)) (wide (r .r)) ⌝ }
 {

@@ -54,7 +54,7 @@ fn shifted(x: u64, s: u64) -> Wide
 
 // Two words by one, with a quotient of one word. A power of two, which leaves the quotient as it is, brings v to the upper half
 // of a word's range.
-pub fn two_by_one(hi: u64, lo: u64, v: u64) -> u64
+pub(crate) fn two_by_one(hi: u64, lo: u64, v: u64) -> u64
     requires { ⌜ hi < v ⌝ }
     ensures { λ r. ⌜ r ≡ (hi * 2 ^ 64 + lo) / v ⌝ }
 {

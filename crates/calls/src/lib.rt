@@ -1,4 +1,6 @@
 // A call's file, cut into its parts.
+#![tactic(auto)]
+
 ghost use Rattle.std.specs.Prelude.{◌≡◌};
 ghost use Rattle.calls.specs.CallFile.{parted_of};
 
@@ -6,14 +8,14 @@ ghost use Rattle.calls.specs.CallFile.{parted_of};
 pub const HEAD: usize = 20;
 
 // What the head says, and where the preload begins.
-#[derive(Drop)]
+#[derive(Clone, Copy)]
 pub struct Head {
     pub selector: u64,
     pub limit: u64,
     pub preload: usize,
 }
 
-#[derive(Drop)]
+#[derive(Clone, Copy)]
 pub enum Parted {
     Call(Head),
     Short,

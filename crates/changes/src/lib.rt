@@ -1,4 +1,6 @@
 // The change list: what a halted run changed, for reconciliation; and the new store.
+#![tactic(auto)]
+
 pub mod merge;
 
 ghost use Rattle.std.specs.Prelude.{◌≡◌, ◌*◌, ◌≤◌, length};
@@ -12,7 +14,7 @@ ghost use Rattle.changes.specs.Changed.{sameb, changed_in, written};
 use tables::check::Checked;
 use tables::rows::Got;
 
-#[derive(Drop)]
+#[derive(Clone, Copy)]
 pub enum ChangeList {
     Rows(usize),
     BadTable,

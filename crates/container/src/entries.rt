@@ -4,7 +4,7 @@ ghost use Rattle.container.specs.Reader.{counted, entry, entries};
 ghost use Rattle.container.specs.Entries.{slot_bytes, list_at, entry_at, slots_of, entries_end};
 
 // Where a list's first word stands, and how many words it has.
-#[derive(Drop)]
+#[derive(Clone, Copy)]
 pub struct Slots {
     pub at: usize,
     pub count: usize,
@@ -19,14 +19,14 @@ pub fn words_of(s: &[u8], list: Slots) -> &[u8]
 }
 
 // A counted list, and the place after it.
-#[derive(Drop)]
+#[derive(Clone, Copy)]
 pub enum CountedRead {
     Done(Slots, usize),
     Short,
 }
 
 // An entry's numbers, its four lists and the place after it.
-#[derive(Drop)]
+#[derive(Clone, Copy)]
 pub struct EntryLayout {
     pub selector: u64,
     pub offset: u64,
@@ -37,14 +37,14 @@ pub struct EntryLayout {
     pub end: usize,
 }
 
-#[derive(Drop)]
+#[derive(Clone, Copy)]
 pub enum EntryRead {
     Done(EntryLayout),
     Short,
 }
 
 // The place after entries.
-#[derive(Drop)]
+#[derive(Clone, Copy)]
 pub enum EntriesEnd {
     At(usize),
     Short,

@@ -9,13 +9,13 @@ use super::entries::{EntryLayout, EntryRead};
 use super::reader::{ReadError, Reading};
 
 // The entry with a selector.
-#[derive(Drop)]
+#[derive(Clone, Copy)]
 pub enum FirstMatch {
     At(EntryLayout),
     Missing,
 }
 
-#[derive(Drop)]
+#[derive(Clone, Copy)]
 pub enum Offset {
     At(u64),
     UnknownSelector,

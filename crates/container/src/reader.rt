@@ -10,7 +10,7 @@ use words::refusal::Refusal;
 pub const TAG: u64 = 0x5156_4D31;
 
 // How many code bytes, constants and entries, and where each part begins.
-#[derive(Drop)]
+#[derive(Clone, Copy)]
 pub struct Layout {
     pub code: usize,
     pub consts: usize,
@@ -20,14 +20,14 @@ pub struct Layout {
     pub entries_at: usize,
 }
 
-#[derive(Drop)]
+#[derive(Clone, Copy)]
 pub enum ReadError {
     BadTag,
     Short,
     Trailing,
 }
 
-#[derive(Drop)]
+#[derive(Clone, Copy)]
 pub enum Reading {
     Done(Layout),
     Refused(ReadError),

@@ -13,7 +13,7 @@ use isa::codec::DecodeError;
 use starts::scan_answers::{Scan, Stands};
 use words::refusal::Refusal;
 
-#[derive(Drop)]
+#[derive(Clone, Copy)]
 pub enum VerifyError {
     CodeTooLarge,
     ConstsTooLarge,
@@ -27,13 +27,13 @@ pub enum VerifyError {
 }
 
 // Whether a check passed.
-#[derive(Drop)]
+#[derive(Clone, Copy)]
 pub enum CheckAnswer {
     Passed,
     Failed(VerifyError),
 }
 
-#[derive(Drop)]
+#[derive(Clone, Copy)]
 pub enum Verified {
     Valid(Layout),
     Unreadable(ReadError),

@@ -1,2 +1,4 @@
 // Writing a container's canonical bytes.
+#![tactic(auto)]
+
 pub mod writer;

@@ -9,7 +9,7 @@ ghost use Rattle.container_writer.specs.WriterParts.{BeginsEntry, or_empty, cont
 use container::reader::TAG;
 use words::laid::{put_bytes, put_number};
 
-#[derive(Drop)]
+#[derive(Clone, Copy)]
 pub enum Written {
     Done(usize),
     BadList,

@@ -2,7 +2,7 @@
 ghost use Rattle.std.specs.Prelude.{◌≤◌, ◌<◌, length};
 ghost use Rattle.effects.specs.Appended.{Appended};
 
-#[derive(Drop)]
+#[derive(Clone, Copy)]
 pub enum Grown {
     End(usize),
     NoRoom,

@@ -3,7 +3,7 @@ ghost use Rattle.std.specs.Prelude.{◌≡◌, ◌≤◌, ◌<◌, length};
 ghost use Rattle.effects.specs.Trailers.{EndingAt};
 
 // A record's kind, word and number of bytes, and where it begins.
-#[derive(Drop)]
+#[derive(Clone, Copy)]
 pub struct Trailer {
     pub kind: u8,
     pub word: u64,

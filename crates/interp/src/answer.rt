@@ -6,7 +6,7 @@ use state::regs::RegFile;
 use words::refusal::Refusal;
 
 // Document 01's number and argument, 0 for a halt; what a run fetched and used; the rows fetched and changed, the bytes of the log, the registers.
-#[derive(Drop)]
+#[derive(Clone, Copy)]
 pub struct Answer {
     pub end: Refusal,
     pub fetches: u64,

@@ -14,7 +14,7 @@ use state::regs::RegFile;
 use words::refusal::Refusal;
 
 // How a run ended, 0 for a halt; what was fetched, and the state it ended in.
-#[derive(Drop)]
+#[derive(Clone, Copy)]
 pub struct Ended {
     pub end: Refusal,
     pub fetches: u64,

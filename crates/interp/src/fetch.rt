@@ -9,7 +9,7 @@ use machine::run::{Paid, Run};
 use words::refusal::Refusal;
 
 // The run that the instruction steps from; or why there is none.
-#[derive(Drop)]
+#[derive(Clone, Copy)]
 pub enum Fetched {
     Done(Run),
     Refused(Refusal),

@@ -1,4 +1,6 @@
 // Opening and running a call.
+#![tactic(auto)]
+
 pub mod answer;
 mod begin;
 mod buffers;

@@ -11,46 +11,46 @@ use super::instr::Instr;
 use super::opcode::{OpByte, OpCode};
 use words::refusal::Refusal;
 
-#[derive(Drop)]
+#[derive(Clone, Copy)]
 pub enum DecodeError {
     UnknownOpcode(u8),
     BadRegister(u8),
     Truncated,
 }
 
-#[derive(Drop)]
+#[derive(Clone, Copy)]
 pub enum Decoded {
     Done(Instr, usize),
     Refused(DecodeError),
 }
 
 // What stands at a place.
-#[derive(Drop)]
+#[derive(Clone, Copy)]
 pub enum GotByte {
     Byte(u8),
     Refused(DecodeError),
 }
 
 // What was read, and the place of the next read.
-#[derive(Drop)]
+#[derive(Clone, Copy)]
 pub struct ReadAt {
     pub got: GotByte,
     pub at: usize,
 }
 
-#[derive(Drop)]
+#[derive(Clone, Copy)]
 pub enum EncodeError {
     BadRegister(u8),
     NoRoom,
 }
 
-#[derive(Drop)]
+#[derive(Clone, Copy)]
 pub enum Encoded {
     Done(usize),
     Refused(EncodeError),
 }
 
-#[derive(Drop)]
+#[derive(Clone, Copy)]
 pub enum FirstBad {
     Bad(u8),
     NoneBad,

@@ -5,14 +5,14 @@ ghost use Rattle.isa.specs.Cursor.{cursor_at, CursorReads, byte_then_reg};
 
 use super::codec::GotByte;
 
-#[derive(Drop)]
+#[derive(Clone, Copy)]
 pub struct Cursor<'a> {
     pub code: &'a [u8],
     pub at: usize,
 }
 
 // What two reads in a row got, and the place of the next.
-#[derive(Drop)]
+#[derive(Clone, Copy)]
 pub struct TwoReads {
     pub byte: GotByte,
     pub reg: GotByte,

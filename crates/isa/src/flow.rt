@@ -7,7 +7,7 @@ use super::instr::Instr;
 use super::opcode::{Kind, OpCode};
 
 // On to the next instruction, to the run's end, to a place, to a place or the next, to a place and later back, or back.
-#[derive(Drop)]
+#[derive(Clone, Copy)]
 pub enum Flow {
     Next,
     Stop,
@@ -17,7 +17,7 @@ pub enum Flow {
     Return,
 }
 
-#[derive(Drop)]
+#[derive(Clone, Copy)]
 pub enum Refers {
     Const(u64),
     Target(u64),

@@ -5,7 +5,7 @@ ghost use Rattle.isa.specs.Shapes.{Shape};
 
 use super::opcode::OpCode;
 
-#[derive(Drop)]
+#[derive(Clone, Copy)]
 pub enum Instr {
     Halt,
     Nop,
@@ -201,7 +201,7 @@ pub enum Instr {
 }
 
 // An instruction's opcode, its registers in order with zeroes after the last, and its number, 0 where it has none.
-#[derive(Drop)]
+#[derive(Clone, Copy)]
 pub struct Parts(pub OpCode, pub [u8; 6], pub u64);
 
 impl Instr {

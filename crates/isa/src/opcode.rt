@@ -3,7 +3,7 @@ ghost use Rattle.std.specs.Prelude.{◌≡◌};
 ghost use Rattle.isa.specs.Table.{row_of, byte_of, regs_of, wide_of, length_of, price_of, op_at};
 ghost use Rattle.isa.specs.Kinds.{kind_of, register_op};
 
-#[derive(Drop)]
+#[derive(Clone, Copy)]
 pub enum OpCode {
     Halt,
     Nop,
@@ -51,17 +51,17 @@ pub enum OpCode {
 }
 
 // What the table says of an opcode: its byte, how many registers it names, how many bytes of number follow them, its base price.
-#[derive(Drop)]
+#[derive(Clone, Copy)]
 pub struct OpRow(pub u8, pub usize, pub usize, pub u64);
 
-#[derive(Drop)]
+#[derive(Clone, Copy)]
 pub enum OpByte {
     Known(OpCode),
     Unknown,
 }
 
 // Opcodes that work on registers alone; Ldc, which names a constant; the others.
-#[derive(Drop)]
+#[derive(Clone, Copy)]
 pub enum Kind {
     Registers,
     Constant,

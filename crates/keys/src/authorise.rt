@@ -12,7 +12,7 @@ ghost use Rattle.keys.specs.declared.look.TableRows.{TableRows};
 use crate::counts::Counts;
 
 // What it comes to: whether the base is declared keyed, and for writing; the price, the bytes of new entries, and whether all of it has room.
-#[derive(Drop)]
+#[derive(Clone, Copy)]
 pub struct KeyPlan {
     pub keyed: bool,
     pub write: bool,

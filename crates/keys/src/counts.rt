@@ -1,5 +1,5 @@
 // How many rows stand in each table.
-#[derive(Drop)]
+#[derive(Clone, Copy)]
 pub struct Counts {
     pub changes: usize,
     pub fetched: usize,

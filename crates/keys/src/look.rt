@@ -10,14 +10,14 @@ ghost use Rattle.keys.specs.Sound.{Loader};
 use tables::rows::Got;
 
 // A value, and whether it came from the loader just now.
-#[derive(Drop)]
+#[derive(Clone, Copy)]
 pub struct Look {
     pub value: u64,
     pub came: bool,
 }
 
 // How many rows stand in the lent tables: the store, and the loader if there is one.
-#[derive(Drop)]
+#[derive(Clone, Copy)]
 pub struct TableRows {
     pub store: usize,
     pub has_loader: bool,

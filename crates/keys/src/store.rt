@@ -14,7 +14,7 @@ use crate::counts::Counts;
 use crate::look::{Look, TableRows};
 
 // What a store comes to: the value before, whether it pays as fresh, its price beyond the base price, and whether all of it has room.
-#[derive(Drop)]
+#[derive(Clone, Copy)]
 pub struct StorePlan {
     pub look: Look,
     pub fresh: bool,

@@ -1,4 +1,6 @@
 // What the two programs print, line by line: verdict of a container, settle of a call.
+#![tactic(auto)]
+
 pub mod answer;
 pub mod effect;
 pub mod names;

@@ -5,7 +5,7 @@ ghost use Rattle.machine.specs.Actions.{action_of};
 use isa::instr::Instr;
 
 // Constants, the stack, memory.
-#[derive(Drop)]
+#[derive(Clone, Copy)]
 pub enum Move {
     Ldc(u8, usize),
     Push(u8),
@@ -14,7 +14,7 @@ pub enum Move {
     MStore(u8, u8),
 }
 
-#[derive(Drop)]
+#[derive(Clone, Copy)]
 pub enum Jump {
     Jmp(u64),
     Jz(u8, u64),
@@ -23,20 +23,20 @@ pub enum Jump {
     Ret,
 }
 
-#[derive(Drop)]
+#[derive(Clone, Copy)]
 pub enum Access {
     SLoad(u8, u8),
     SStore(u8, u8),
 }
 
-#[derive(Drop)]
+#[derive(Clone, Copy)]
 pub enum Post {
     Send(u8, u8, u8),
     Emit(u8, u8, u8),
 }
 
 // Crypto instructions that only take a reply; the register whose value their price goes by.
-#[derive(Drop)]
+#[derive(Clone, Copy)]
 pub enum Check {
     VerifyMl(u8),
     VerifySlh(u8),
@@ -44,7 +44,7 @@ pub enum Check {
     Addr,
 }
 
-#[derive(Drop)]
+#[derive(Clone, Copy)]
 pub enum Action {
     Halt,
     Nop,

@@ -1,7 +1,7 @@
 // What the host supplies.
 
 // The genesis selector, and for either scheme the bytes that a signature's base price covers (SIGNED_BYTES).
-#[derive(Drop)]
+#[derive(Clone, Copy)]
 pub struct Host {
     pub genesis: u32,
     pub ml_signed: u64,

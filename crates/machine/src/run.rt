@@ -5,7 +5,7 @@ ghost use Rattle.machine.specs.Does.{paid_by};
 use keys::counts::Counts;
 use meter::{Charged, Meter};
 
-#[derive(Drop)]
+#[derive(Clone, Copy)]
 pub struct Run {
     pub pc: u64,
     pub depth: usize,
@@ -22,7 +22,7 @@ pub struct Run {
     pub fetches: u64,
 }
 
-#[derive(Drop)]
+#[derive(Clone, Copy)]
 pub enum Paid {
     Done(Run),
     OutOfMeter,

@@ -5,7 +5,7 @@ ghost use Rattle.machine.specs.Does.{goes, sets, stops, halts};
 use crate::run::Run;
 
 // Two words for two registers, the first put first; a register past the last is none.
-#[derive(Drop)]
+#[derive(Clone, Copy)]
 pub struct Put {
     pub d: u8,
     pub v: u64,
@@ -14,7 +14,7 @@ pub struct Put {
 }
 
 // The run after a turn and what goes into its registers; its fault, or 0; whether it halts.
-#[derive(Drop)]
+#[derive(Clone, Copy)]
 pub struct Turn {
     pub run: Run,
     pub put: Put,

@@ -1,4 +1,6 @@
 // Prices beyond the base price, and the meter that they are charged to.
+#![tactic(auto)]
+
 ghost use Rattle.std.specs.Prelude.{◌≡◌, ◌+◌, ◌-◌, ◌*◌, ◌/◌, ◌^◌, min};
 ghost use Rattle.meter.specs.Prices.{hash_price, message_price, merkle_price, dispatch_price};
 ghost use Rattle.meter.specs.Meter.{charge_of};
@@ -17,13 +19,13 @@ pub const MERKLE_LEVEL: u64 = 50;
 
 pub const MERKLE_HEADER: u64 = 72;
 
-#[derive(Drop)]
+#[derive(Clone, Copy)]
 pub struct Meter {
     pub used: u64,
     pub limit: u64,
 }
 
-#[derive(Drop)]
+#[derive(Clone, Copy)]
 pub enum Charged {
     Paid(Meter),
     OutOfMeter,

@@ -7,7 +7,7 @@ use replies::rows::Replies;
 use tables::check::Checked;
 
 // The rows of store and loader, or the number of what is no table.
-#[derive(Drop)]
+#[derive(Clone, Copy)]
 pub enum Tables {
     Good(TableRows),
     Bad(u64),

@@ -10,7 +10,7 @@ use machine::host::Host;
 use words::refusal::Refusal;
 
 // What a call asks for: whether by an entry's call, which refuses the genesis selector; and whether there is a loader.
-#[derive(Drop)]
+#[derive(Clone, Copy)]
 pub struct Call {
     pub entry: bool,
     pub selector: u32,
@@ -48,7 +48,7 @@ impl Call {
 }
 
 // Where the container's parts and the entry's stand, the rows of store and loader, and what opening costs.
-#[derive(Drop)]
+#[derive(Clone, Copy)]
 pub struct Opened {
     pub layout: Layout,
     pub entry: EntryLayout,
@@ -56,7 +56,7 @@ pub struct Opened {
     pub used: u64,
 }
 
-#[derive(Drop)]
+#[derive(Clone, Copy)]
 pub enum OpenAnswer {
     Done(Opened),
     Refused(Refusal),

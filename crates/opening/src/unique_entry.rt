@@ -7,7 +7,7 @@ ghost use Rattle.opening.specs.Parts.{SoughtTold};
 use container::entries::{EntryLayout, EntryRead};
 use container::offsets::FirstMatch;
 
-#[derive(Drop)]
+#[derive(Clone, Copy)]
 pub enum Sought {
     At(EntryLayout),
     Missing,

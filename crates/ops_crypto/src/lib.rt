@@ -1,4 +1,6 @@
 // Crypto instructions: a price, then the next recorded reply; a Hash may authorise the key at its output.
+#![tactic(auto)]
+
 mod ask;
 pub mod check;
 pub mod hash;

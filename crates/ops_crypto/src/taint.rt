@@ -15,7 +15,7 @@ use machine::turn::{Put, Turn};
 use state::memory::{Load, Region};
 
 // The base of a Hash, if it has one.
-#[derive(Drop)]
+#[derive(Clone, Copy)]
 pub enum Base {
     Number(u64),
     Nothing,

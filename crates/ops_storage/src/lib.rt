@@ -1,4 +1,6 @@
 // Loading and storing the value at a key that stands in memory.
+#![tactic(auto)]
+
 ghost use Rattle.std.specs.Prelude.{◌≡◌, List, ℕ};
 ghost use Rattle.tables.specs.Table.{Table};
 ghost use Rattle.state.specs.Regs.{file};

@@ -1,4 +1,6 @@
 // What the programs share: text, numbers in decimal, bytes in hex or in decimal printed, and parts of what was read.
+#![tactic(auto)]
+
 pub mod parts;
 
 use libc::STDOUT_FILENO;

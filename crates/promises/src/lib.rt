@@ -1,1 +1,2 @@
 // Theorems over calls: see specs/.
+#![tactic(auto)]

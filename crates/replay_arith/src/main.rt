@@ -1,5 +1,7 @@
 // Does each register operation of standard input; a line for each.
 // A record is an opcode (1 byte) and four words: the operands, or the number and the divisor, the high word first.
+#![tactic(auto)]
+
 use isa::codec::Decoded;
 use libc::STDIN_FILENO;
 use state::regs::RegFile;

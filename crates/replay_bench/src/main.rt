@@ -1,5 +1,7 @@
 // Takes each step of standard input on the bench, one register file from the first to the last; a line for each.
 // A step is an opcode (1 byte), six registers (1 each), of which an instruction has as many as it names, and a word, which Ldi has.
+#![tactic(auto)]
+
 ghost use Rattle.std.specs.Prelude.{◌≤◌, length};
 
 use isa::instr::Instr;

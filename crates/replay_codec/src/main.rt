@@ -1,5 +1,7 @@
 // Decodes each record of standard input and encodes what it decoded; a line for each.
 // A record is a place (8 bytes), a count (1 byte) and that many bytes of code.
+#![tactic(auto)]
+
 use isa::codec::{DecodeError, Decoded, Encoded};
 use isa::instr::Instr;
 use isa::opcode::OpCode;

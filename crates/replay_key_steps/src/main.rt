@@ -1,5 +1,7 @@
 // Drives loads, stores and authorisations through the runs of standard input; a line for each record.
 // A run is a length (4 bytes) and that many bytes: a head, then records. run.rt and steps.rt say how these lie.
+#![tactic(auto)]
+
 mod authorise;
 mod load;
 mod run;

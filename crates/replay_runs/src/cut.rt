@@ -5,7 +5,7 @@ use libc::STDIN_FILENO;
 pub const HEAD: usize = 74;
 
 // Where each of them ends.
-#[derive(Drop)]
+#[derive(Clone, Copy)]
 pub struct Ends {
     pub container: usize,
     pub store: usize,

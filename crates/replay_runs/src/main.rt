@@ -1,5 +1,7 @@
 // Opens and runs each call of standard input; a line for each, with the answer and a checksum of every lent buffer at its end.
 // oracle/README.md has a record's layout.
+#![tactic(auto)]
+
 mod cut;
 mod lent;
 mod shown;

@@ -1,5 +1,7 @@
 // Drives sorted tables and an effect log through the records of standard input; a line for each.
 // A record is an operation (1 byte), a key (32) and a value (8); a mint's data are both.
+#![tactic(auto)]
+
 ghost use Rattle.std.specs.Prelude.{◌≡◌, true, ◌≤◌, length};
 ghost use Rattle.tables.specs.Table.{Table};
 
@@ -13,7 +15,7 @@ use tables::store::Stored;
 const MINT: u64 = 0x4D49_4E54_0000_0000;
 
 // How many rows stand in the map and in the set, and where the log ends.
-#[derive(Drop)]
+#[derive(Clone, Copy)]
 struct Ends {
     map: usize,
     set: usize,

@@ -1,5 +1,7 @@
 // Prints what verify says of each container of standard input: a length (4 bytes) and that many bytes.
 // From 2^31 on a length stands for a container with so many zero bytes of code more.
+#![tactic(auto)]
+
 use container_verify::verify::Verified;
 use libc::STDIN_FILENO;
 

@@ -1,3 +1,5 @@
 // Rows of recorded replies.
+#![tactic(auto)]
+
 pub mod reply;
 pub mod rows;

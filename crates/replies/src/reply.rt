@@ -2,7 +2,7 @@
 ghost use Rattle.std.specs.Prelude.{◌≡◌, length, drop};
 ghost use Rattle.replies.specs.Reply.{reply_of, zeros, good_reply, good_register, good_region};
 
-#[derive(Drop)]
+#[derive(Clone, Copy)]
 pub struct Reply {
     pub outcome: u8,
     pub register: u8,

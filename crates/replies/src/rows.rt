@@ -5,7 +5,7 @@ ghost use Rattle.replies.specs.Replies.{replies_of};
 
 use crate::reply::Reply;
 
-#[derive(Drop)]
+#[derive(Clone, Copy)]
 pub enum Replies {
     Rows(usize),
     Bad,

@@ -9,7 +9,7 @@ const ML_SIGNED: u64 = 5261;
 const SLH_SIGNED: u64 = 7888;
 
 // Which argument names each file, 0 for none; and the host's numbers.
-#[derive(Drop)]
+#[derive(Clone, Copy)]
 pub struct Asked {
     pub ok: bool,
     pub files: usize,

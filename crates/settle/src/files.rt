@@ -1,6 +1,6 @@
 // Files by the argument that names them.
 
-#[derive(Drop)]
+#[derive(Clone, Copy)]
 pub enum Loaded {
     Bytes(usize),
     Failed,

@@ -1,4 +1,6 @@
 // Runs one call from files and prints what happened; ./settle has the arguments.
+#![tactic(auto)]
+
 mod args;
 mod files;
 mod report;

@@ -7,7 +7,7 @@ ghost use Rattle.state.specs.Alu.{word, difference, over, part_of, alu_of};
 use words::product::Wide;
 
 // The operations on two registers.
-#[derive(Drop)]
+#[derive(Clone, Copy)]
 pub enum Op {
     Add,
     Sub,
@@ -29,14 +29,14 @@ pub enum Op {
 }
 
 // What an operation gives: a word, or the number of its fault.
-#[derive(Drop)]
+#[derive(Clone, Copy)]
 pub enum Value {
     Done(u64),
     Fault(u64),
 }
 
 // What is wanted of a division.
-#[derive(Drop)]
+#[derive(Clone, Copy)]
 pub enum Wanted {
     Quotient,
     Rest,

@@ -1,4 +1,6 @@
 // What an instruction works on: registers, memory and stack.
+#![tactic(auto)]
+
 pub mod alu;
 pub mod bench;
 pub mod memory;

@@ -3,13 +3,13 @@ ghost use Rattle.std.specs.Prelude.{◌≡◌, length};
 ghost use Rattle.state.specs.Memory.{inside, region_of, load_of, stored_at, written_at};
 
 // Where a region starts and ends.
-#[derive(Drop)]
+#[derive(Clone, Copy)]
 pub enum Region {
     Part(usize, usize),
     Outside,
 }
 
-#[derive(Drop)]
+#[derive(Clone, Copy)]
 pub enum Load {
     Word(u64),
     BadMemory,

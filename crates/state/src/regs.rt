@@ -7,20 +7,20 @@ use super::alu::{Op, Value, Wanted};
 use isa::instr::Instr;
 use words::product::Wide;
 
-#[derive(Drop)]
+#[derive(Clone, Copy)]
 pub struct RegFile {
     pub r: [u64; 16],
 }
 
 // The file after an operation, and the operation's fault, or 0.
-#[derive(Drop)]
+#[derive(Clone, Copy)]
 pub struct Stepped {
     pub file: RegFile,
     pub fault: u64,
 }
 
 // What an operation does: a word into a register, two words into two, or a fault and nothing.
-#[derive(Drop)]
+#[derive(Clone, Copy)]
 pub enum Outcome {
     Put(u8, u64),
     PutWide(u8, u8, Wide),

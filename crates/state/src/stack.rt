@@ -2,13 +2,13 @@
 ghost use Rattle.std.specs.Prelude.{◌≡◌, ◌≤◌, length, slice_set};
 ghost use Rattle.state.specs.Stack.{push_of, pop_of};
 
-#[derive(Drop)]
+#[derive(Clone, Copy)]
 pub enum Pushed {
     Depth(usize),
     StackOverflow,
 }
 
-#[derive(Drop)]
+#[derive(Clone, Copy)]
 pub enum Popped {
     Word(u64),
     StackUnderflow,

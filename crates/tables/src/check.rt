@@ -5,7 +5,7 @@ ghost use Rattle.tables.specs.Checked.{risingb, checked_of, checked_if};
 
 use crate::order::Order;
 
-#[derive(Drop)]
+#[derive(Clone, Copy)]
 pub enum Checked {
     Whole(usize),
     Bad,

@@ -9,7 +9,7 @@ ghost use Rattle.tables.specs.Answers.{got_of};
 
 use crate::order::Order;
 
-#[derive(Drop)]
+#[derive(Clone, Copy)]
 pub enum Found {
     At(usize),
     Missing(usize),
@@ -48,7 +48,7 @@ pub fn has(t: &[u8], n: usize, w: usize, key: &[u8]) -> bool
     }
 }
 
-#[derive(Drop)]
+#[derive(Clone, Copy)]
 pub enum Got {
     Value(u64),
     Nothing,

@@ -7,7 +7,7 @@ ghost use Rattle.tables.specs.Table.{Table, Inserted};
 
 use crate::rows::Found;
 
-#[derive(Drop)]
+#[derive(Clone, Copy)]
 pub enum Stored {
     Count(usize),
     NoRoom,

@@ -2,7 +2,7 @@
 ghost use Rattle.std.specs.Prelude.{◌≡◌};
 ghost use Rattle.text.specs.Number.{with_digit, parsed_of};
 
-#[derive(Drop)]
+#[derive(Clone, Copy)]
 pub enum ParsedNumber {
     Number(u64),
     Bad,

@@ -1,4 +1,6 @@
 // Reads one container from standard input and prints what verify says of it.
+#![tactic(auto)]
+
 use libc::STDIN_FILENO;
 
 fn main() {

@@ -4,7 +4,7 @@ ghost use Rattle.words.specs.Wide.{wide, Divides};
 
 use super::product::{Wide, product};
 
-#[derive(Drop)]
+#[derive(Clone, Copy)]
 pub struct Divided {
     pub q: Wide,
     pub r: Wide,

@@ -6,7 +6,7 @@ use super::descend::{Divided, descend};
 use super::product::{HALF, Wide};
 
 // Quotient and remainder of one word each.
-#[derive(Drop)]
+#[derive(Clone, Copy)]
 struct Short {
     q: u64,
     r: u64,

@@ -1,4 +1,6 @@
 // Numbers as bytes, numbers of two words, and refusals in numbers.
+#![tactic(auto)]
+
 pub mod bytes;
 pub mod descend;
 pub mod divide;

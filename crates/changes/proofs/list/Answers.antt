@@ -1,0 +1,15 @@
+-- `changes::list` meets its contract: the rows are counted, and written where they fit. Assumes nothing.
+use native.Mathlib.Omega.{arith}
+use Rattle.changes.specs.AnswerLaws.{ends_short, ends_rows}
+use Rattle.changes.proofs.list.Goals as goal
+
+pub returns-then-out-k : goal.returns-then-out-k
+returns-then-out-k c = ends_short _ _ _ c.count_changed-k.ensures (omega (arith, c.if-out-k.true))
+
+pub write_changed-requires : goal.write_changed-requires
+write_changed-requires c =
+    (c.requires.0, c.requires.1, c.requires.2, omega (arith, c.count_changed-k.ensures, c.if-out-k.false))
+
+pub returns : goal.returns
+returns c =
+    ends_rows _ _ _ _ c.count_changed-k.ensures c.if-out-k.false c.write_changed.ensures

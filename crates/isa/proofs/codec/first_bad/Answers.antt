@@ -1,0 +1,28 @@
+-- `first_bad` meets its contract. The loop's invariant: what is left of the registers decides. Assumes nothing.
+use mathlib.Core.Path.{sym, ◌∙◌}
+use Prim.Native.Nat.{◌-◌}
+use native.Mathlib.Omega.{arith}
+use lib.ListN.{get_or, length-take}
+use borrow.Author.Tests.{le-ltb, lt-ltb}
+use Rattle.isa.specs.DecodeLaws.{bad_turn, bad_end}
+use Rattle.isa.proofs.codec.first_bad.Goals as goal
+
+pub returns-then-s-i : goal.returns-then-s-i
+returns-then-s-i c =
+    let a = c.args in
+    sym (c.loop-i.invariant ∙ bad_end a.n a.s.now c.loop-i.i (rw length-take (omega arith)))
+
+pub returns-then-b-ge-NUM_REGS : goal.returns-then-b-ge-NUM_REGS
+returns-then-b-ge-NUM_REGS c =
+    let a = c.args in
+    sym (c.loop-i.invariant ∙ bad_turn a.n a.s.now c.loop-i.i (omega arith) (omega arith) ∙ rw (le-ltb (get_or a.s.now c.loop-i.i 0) 16 c.if-b-ge-NUM_REGS.true))
+
+pub loop-i-preserved : goal.loop-i-preserved
+loop-i-preserved c =
+    let a = c.args in
+    c.loop-i.invariant ∙ bad_turn a.n a.s.now c.loop-i.i (omega arith) (omega arith) ∙ rw (lt-ltb (get_or a.s.now c.loop-i.i 0) 16 c.if-b-ge-NUM_REGS.false)
+
+pub returns : goal.returns
+returns c =
+    let a = c.args in
+    sym (c.loop-i.invariant ∙ bad_end a.n a.s.now c.loop-i.i (rw length-take (omega arith)))

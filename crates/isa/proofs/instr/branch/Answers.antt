@@ -1,0 +1,16 @@
+-- `branch` meets its contract: each arm gives the instruction of the opcode that it is told, and the last that of Jnz. Assumes nothing.
+use mathlib.Core.Path.{refl}
+use Rattle.isa.specs.declared.opcode.OpCode.TheVariants.{Jnz}
+use Rattle.isa.specs.Table.{row_of}
+use Rattle.isa.specs.Forms.{instr_of}
+use Rattle.isa.specs.ToldLaws.{cut_told}
+use Rattle.isa.proofs.instr.Last.{last}
+use Rattle.isa.proofs.instr.branch.Goals as goal
+
+pub returns-in-Jz : goal.returns-in-Jz
+unfolding row_of instr_of
+returns-in-Jz c h l = search cut_told
+
+pub returns-in_default : goal.returns-in_default
+unfolding row_of instr_of
+returns-in_default c h l = cut_told _ Jnz _ _ _ _ (last 1 4 Jnz refl c.args.op c.in_default.keys2 h) l refl

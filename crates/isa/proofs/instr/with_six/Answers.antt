@@ -1,0 +1,16 @@
+-- `with_six` meets its contract: each arm gives the instruction of the opcode that it is told, and the last that of RemW. Assumes nothing.
+use mathlib.Core.Path.{refl}
+use Rattle.isa.specs.declared.opcode.OpCode.TheVariants.{RemW}
+use Rattle.isa.specs.Table.{row_of}
+use Rattle.isa.specs.Forms.{instr_of}
+use Rattle.isa.specs.ToldLaws.{instr_told}
+use Rattle.isa.proofs.instr.Last.{last}
+use Rattle.isa.proofs.instr.with_six.Goals as goal
+
+pub returns-in-DivW : goal.returns-in-DivW
+unfolding row_of instr_of
+returns-in-DivW c h = search instr_told
+
+pub returns-in_default : goal.returns-in_default
+unfolding row_of instr_of
+returns-in_default c h = instr_told _ RemW _ _ _ (last 6 0 RemW refl c.args.op c.in_default.keys2 h) refl

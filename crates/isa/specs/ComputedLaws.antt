@@ -20,7 +20,7 @@ kept o r n = form o (from 0 (regs_of o) r) (pick (eqb (wide_of o) 0) 0 n)
 pub computed : (o : OpCode) → (op_at (byte_of o) ≡ Known o) × ((r : List ℕ) (n : ℕ) → form_of (instr_of o r n) ≡ kept o r n)
 unfolding row_of op_with op_at form_of instr_of
 computed o =
-    elim o [
+    elim o as (λ (o : OpCode). (op_at (byte_of o) ≡ Known o) × ((r : List ℕ) (n : ℕ) → form_of (instr_of o r n) ≡ kept o r n)) [
       | op.Halt ↦ (refl, λ r n. refl)
       | op.Nop ↦ (refl, λ r n. refl)
       | op.Mov ↦ (refl, λ r n. refl)

@@ -14,7 +14,7 @@ use Rattle.isa.specs.Forms.{Form, form, form_of, instr_of}
 pub rebuilt : (i : Instr) → instr_of (form_of i).op (form_of i).regs (form_of i).number ≡ i
 unfolding form_of instr_of
 rebuilt i =
-    elim i [
+    elim i as (λ (i : Instr). instr_of (form_of i).op (form_of i).regs (form_of i).number ≡ i) [
       | instr.Halt ↦ refl
       | instr.Nop ↦ refl
       | instr.Mov d a ↦ refl

@@ -1,5 +1,5 @@
 -- Every instruction but Halt has a base price. Assumes nothing.
-use Rattle.std.specs.Prelude.{◌≡◌, refl, Bool, true, false, ℕ, ◌≤◌, eqb, ltb}
+use Rattle.std.specs.Prelude.{◌≡◌, refl, Bool, true, false, ◌≤◌, eqb, ltb}
 use Rattle.std.proofs.Common.{sym, ap, ◌∙◌, eqb-true, ltb-true}
 use Rattle.words.specs.Choice.{either}
 use Rattle.isa.specs.Table.{row_of, byte_of, price_of, op_with, op_at}

@@ -25,20 +25,20 @@ pub returns-then-code-ge-FOUR_BYTES : goal.returns-then-code-ge-FOUR_BYTES
 returns-then-code-ge-FOUR_BYTES c =
     let a = c.args in
     let e = answer_refused (said (goal.at-returns-then-code-ge-FOUR_BYTES c).Start) a.out.now (long_code a.code.now a.consts.now a.list.now c.if-code-ge-FOUR_BYTES.true) in
-    (e.0, e.1)
+    record { answer = e.0; output = e.1 }
 
 pub returns-then-consts-ge-FOUR_BYTES : goal.returns-then-consts-ge-FOUR_BYTES
 returns-then-consts-ge-FOUR_BYTES c =
     let a = c.args in
     let e = answer_refused (said (goal.at-returns-then-consts-ge-FOUR_BYTES c).Start) a.out.now (long_consts a.code.now a.consts.now a.list.now c.if-code-ge-FOUR_BYTES.false c.if-consts-ge-FOUR_BYTES.true) in
-    (e.0, e.1)
+    record { answer = e.0; output = e.1 }
 
 pub returns-then-not-is_list : goal.returns-then-not-is_list
 returns-then-not-is_list c =
     let a = c.args in
     let e = answer_refused (said (goal.at-returns-then-not-is_list c).Start) a.out.now (no_list a.code.now a.consts.now a.list.now c.if-code-ge-FOUR_BYTES.false c.if-consts-ge-FOUR_BYTES.false
     (sym c.is_list.ensures ∙ c.if-not-is_list.true)) in
-    (e.0, e.1)
+    record { answer = e.0; output = e.1 }
 
 is_one : (c : Else-not-is_list) → is_some (listed c.args.list.now) ≡ true
 is_one c = sym c.is_list.ensures ∙ c.if-not-is_list.false
@@ -70,7 +70,7 @@ overflow_sub-size c = omega (arith, size (goal.at-overflow_sub-size c).Else-not-
 pub returns-then-out-size : goal.returns-then-out-size
 returns-then-out-size c =
     let e = no_room (said (goal.at-returns-then-out-size c).Start) c.args.out.now (whole (goal.at-returns-then-out-size c).Start) (to_write_lem (goal.at-returns-then-out-size c).Else-not-is_list) (omega (arith, size (goal.at-returns-then-out-size c).Else-not-is_list, c.if-out-size.true)) in
-    (e.0, e.1)
+    record { answer = e.0; output = e.1 }
 
 pub put-requires : goal.put-requires
 put-requires c = (is_one (goal.at-put-requires c).Else-not-is_list, omega (arith, size (goal.at-put-requires c).Else-not-is_list, c.if-out-size.false))
@@ -78,4 +78,4 @@ put-requires c = (is_one (goal.at-put-requires c).Else-not-is_list, omega (arith
 pub returns : goal.returns
 returns c =
     let e = answer_done (said (goal.at-returns c).Start) c.args.out.now _ (whole (goal.at-returns c).Start) c.put.result (to_write_lem (goal.at-returns c).Else-not-is_list) (omega (arith, size (goal.at-returns c).Else-not-is_list, c.if-out-size.false)) c.put.ensures in
-    (e.0, e.1)
+    record { answer = e.0; output = e.1 }

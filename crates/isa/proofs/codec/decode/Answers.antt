@@ -65,7 +65,7 @@ returns-in-3 c = c.three.ensures ∙ says (goal.at-returns-in-3 c).After-row-row
 
 pub six-requires : goal.six-requires
 unfolding row_of
-six-requires c = row_six (opcode (goal.at-six-requires c).After-row-row) _ c.row-row.ensures (omega (arith, c.in_default-n.rest))
+six-requires c = row_six (opcode (goal.at-six-requires c).After-row-row) _ c.row-row.ensures (omega (arith, c.in_default-n.in_default-n-own.rest))
 
 pub returns-in_default-n : goal.returns-in_default-n
 unfolding row_of

@@ -20,7 +20,7 @@ pub returns-in-Bad : goal.returns-in-Bad
 returns-in-Bad c =
     let a = c.args in
     let e = encoded_bad a.i a.out.now c.in-Bad.b (sym c.bad_register.ensures ∙ c.in-Bad.is) in
-    (e.answer, e.output)
+    record { answer = e.answer; output = e.output }
 
 pub overflow_add-size : goal.overflow_add-size
 overflow_add-size c = rw c.row-row.ensures (omega (arith, row_small c))
@@ -32,7 +32,7 @@ pub returns-then-out-size : goal.returns-then-out-size
 returns-then-out-size c =
     let a = c.args in
     let e = encoded_no_room a.i a.out.now c.parts_of-p.result c.row-row.result c.parts_of-p.ensures c.row-row.ensures (no_bad (goal.at-returns-then-out-size c).In_default) c.if-out-size.true in
-    (e.answer, e.output)
+    record { answer = e.answer; output = e.output }
 
 pub put-requires : goal.put-requires
 put-requires c =
@@ -43,4 +43,4 @@ pub returns : goal.returns
 returns c =
     let a = c.args in
     let e = encoded_done a.i a.out.now c.parts_of-p.result c.row-row.result c.parts_of-p.ensures c.row-row.ensures (no_bad (goal.at-returns c).In_default) c.if-out-size.false _ c.put.ensures in
-    (e.answer, e.output)
+    record { answer = e.answer; output = e.output }

@@ -1,6 +1,5 @@
 -- `first_bad` meets its contract. The loop's invariant: what is left of the registers decides. Assumes nothing.
 use mathlib.Core.Path.{sym, ◌∙◌}
-use Prim.Native.Nat.{◌-◌}
 use native.Mathlib.Omega.{arith}
 use lib.ListN.{get_or, length-take}
 use borrow.Author.Tests.{le-ltb, lt-ltb}

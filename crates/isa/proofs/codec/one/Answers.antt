@@ -32,7 +32,7 @@ arm c w e =
 eight : (c : In_default) → c.args.w ≡ 8
 unfolding row_of
 eight c =
-    let r = c.in_default.rest in
+    let r = c.in_default.in_default-own.rest in
     widths (0 ∷ 2 ∷ 4 ∷ []) 8 1 c.args.w refl c.args.op c.requires (⊎_elim r.0.0.1 (⊎_elim r.0.1 r.1))
 
 -- a number read there is within its width
@@ -49,7 +49,7 @@ returns-then-not-stands c =
     c.refused.ensures ∙ shape_refused c.args.op c.args.s.now 1 c.args.w c.requires (sym c.stands.ensures ∙ c.if-not-stands.true)
 
 pub bounds-s-0 : goal.bounds-s-0
-bounds-s-0 c = omega (arith, stands_room 1 _ _ (arm c _ refl).1)
+bounds-s-0 c = omega (arith, stands_room 1 c.args.w c.args.s.now (sym c.stands.ensures ∙ c.if-not-stands.false))
 
 pub returns-in-0 : goal.returns-in-0
 unfolding num num_from

@@ -5,6 +5,7 @@ use Rattle.isa.specs.Table.{row_of}
 use Rattle.isa.specs.Forms.{instr_of}
 use Rattle.isa.specs.ToldLaws.{instr_told}
 use Rattle.isa.proofs.instr.Last.{last}
+use borrow.Enum.Refused.{opened}
 use Rattle.isa.proofs.instr.plain.Goals as goal
 
 pub returns-in-Halt : goal.returns-in-Halt
@@ -17,4 +18,4 @@ returns-in-Nop c h = search instr_told
 
 pub returns-in_default : goal.returns-in_default
 unfolding row_of instr_of
-returns-in_default c h = instr_told _ Ret _ _ _ (last 0 0 Ret refl c.args.op c.in_default.keys3 h) refl
+returns-in_default c h = instr_told _ Ret _ _ _ (last 0 0 Ret refl c.args.op (opened c.in_default.in_default-own.keys3) h) refl

@@ -5,6 +5,7 @@ use Rattle.isa.specs.Table.{row_of}
 use Rattle.isa.specs.Forms.{instr_of}
 use Rattle.isa.specs.ToldLaws.{instr_told}
 use Rattle.isa.proofs.instr.Last.{last}
+use borrow.Enum.Refused.{opened}
 use Rattle.isa.proofs.instr.with_six.Goals as goal
 
 pub returns-in-DivW : goal.returns-in-DivW
@@ -13,4 +14,4 @@ returns-in-DivW c h = search instr_told
 
 pub returns-in_default : goal.returns-in_default
 unfolding row_of instr_of
-returns-in_default c h = instr_told _ RemW _ _ _ (last 6 0 RemW refl c.args.op c.in_default.keys2 h) refl
+returns-in_default c h = instr_told _ RemW _ _ _ (last 6 0 RemW refl c.args.op (opened c.in_default.in_default-own.keys2) h) refl

@@ -101,4 +101,4 @@ returns-in-MerkleVerify c h = search instr_told
 
 pub returns-in_default : goal.returns-in_default
 unfolding row_of instr_of
-returns-in_default c h = instr_told _ Addr _ _ _ (last 3 0 Addr refl c.args.op c.in_default.keys24 h) refl
+returns-in_default c h = instr_told _ Addr _ _ _ (last 3 0 Addr refl c.args.op c.in_default.in_default-own.keys24 h) refl

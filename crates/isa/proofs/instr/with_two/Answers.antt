@@ -5,6 +5,7 @@ use Rattle.isa.specs.Table.{row_of}
 use Rattle.isa.specs.Forms.{instr_of}
 use Rattle.isa.specs.ToldLaws.{instr_told}
 use Rattle.isa.proofs.instr.Last.{last}
+use borrow.Enum.Refused.{opened}
 use Rattle.isa.proofs.instr.with_two.Goals as goal
 
 pub returns-in-Mov : goal.returns-in-Mov
@@ -29,4 +30,4 @@ returns-in-SLoad c h = search instr_told
 
 pub returns-in_default : goal.returns-in_default
 unfolding row_of instr_of
-returns-in_default c h = instr_told _ SStore _ _ _ (last 2 0 SStore refl c.args.op c.in_default.keys6 h) refl
+returns-in_default c h = instr_told _ SStore _ _ _ (last 2 0 SStore refl c.args.op (opened c.in_default.in_default-own.keys6) h) refl

@@ -8,6 +8,7 @@ use Rattle.isa.specs.Flow.{flow_of}
 use Rattle.isa.specs.ToldLaws.{flow_told}
 use Rattle.isa.specs.TestLaws.{goes_on, goes_on_lem}
 use Rattle.isa.proofs.Tags.{in_arm}
+use borrow.Enum.Refused.{opened}
 use Rattle.isa.proofs.instr.Instr.flow.Goals as goal
 
 pub returns-in_default : goal.returns-in_default
@@ -15,7 +16,7 @@ unfolding member row_of
 returns-in_default c =
     let i = c.args.self in
     let p = c.parts_of-p.result in
-    flow_told i p p.0 Next c.parts_of-p.ensures refl (goes_on_lem p.0 (form_of i).regs p.2 (in_arm goes_on refl p.0 c.in_default.keys7))
+    flow_told i p p.0 Next c.parts_of-p.ensures refl (goes_on_lem p.0 (form_of i).regs p.2 (in_arm goes_on refl p.0 (opened c.in_default.in_default-own.keys7)))
 
 pub returns-in-Halt : goal.returns-in-Halt
 unfolding flow_of instr_of

@@ -179,4 +179,4 @@ returns-in-118 c = search byte_told
 
 pub returns-in_default : goal.returns-in_default
 unfolding row_of op_with op_at
-returns-in_default c = sym (none_of _ opcodes c.args.b c.in_default.rest).0
+returns-in_default c = sym (none_of _ opcodes c.args.b c.in_default.in_default-own.rest).0

@@ -1,3 +1,0 @@
--- What the proofs of more than one read use.
-mod Reading
-mod Lending

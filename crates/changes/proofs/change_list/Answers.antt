@@ -18,7 +18,7 @@ use Rattle.changes.proofs.change_list.Goals.{Else-not-rising, In-Whole, In-Whole
 abbrev given : Start → ChangesLent
 given start =
     let a = start.args in
-    lent a.changes.now a.count a.store.now a.has-loader a.loader.now
+    lent a.changes.now a.count a.store.now a.has_loader a.loader.now
 
 -- past both tests the counted rows stand and rise
 abbrev lent_at : Else-not-rising → ChangesLent
@@ -43,15 +43,17 @@ loader_whole : (both : In-Whole-l) → let l = lent_at (goal.at-In-Whole-l both)
 loader_whole both = sym both.check_if-l.ensures ∙ both.in-Whole-l.is
 
 pub returns-then-changes-count : goal.returns-then-changes-count
-returns-then-changes-count c =
+returns-then-changes-count c = let whole =
     let l = given (goal.at-returns-then-changes-count c).Start in
     ends_bad (list_of l) _ (no_changes l (stored_past l.changes l.count c.if-changes-count.true))
+    in record { answer = whole.0; output = whole.1 }
 
 pub returns-then-not-rising : goal.returns-then-not-rising
-returns-then-not-rising c =
+returns-then-not-rising c = let whole =
     let l = given (goal.at-returns-then-not-rising c).Start in
     let falls = sym c.if-not-rising.true ∙ c.rising.ensures in
     ends_bad (list_of l) _ (no_changes l (stored_by l.changes l.count false c.if-changes-count.false falls))
+    in record { answer = whole.0; output = whole.1 }
 
 pub list-requires : goal.list-requires
 list-requires c =
@@ -62,18 +64,21 @@ list-requires c =
     )
 
 pub returns-in-Bad : goal.returns-in-Bad
-returns-in-Bad c =
+returns-in-Bad c = let whole =
     let l = lent_at (goal.at-returns-in-Bad c).Else-not-rising in
     ends_bad (list_of l) _ (no_store l _ (stood (goal.at-returns-in-Bad c).Else-not-rising) (sym c.check-s.ensures ∙ c.in-Bad.is))
+    in record { answer = whole.0; output = whole.1 }
 
 pub returns-in-Bad-l : goal.returns-in-Bad-l
-returns-in-Bad-l c =
+returns-in-Bad-l c = let whole =
     let l = lent_at (goal.at-returns-in-Bad-l c).Else-not-rising in
     let bad = loader_bad l.has_loader l.loader (sym c.check_if-l.ensures ∙ c.in-Bad-l.is) in
     ends_bad (list_of l) _ (no_loader l _ (stood (goal.at-returns-in-Bad-l c).Else-not-rising) (ns (goal.at-returns-in-Bad-l c).In-Whole) (store_whole (goal.at-returns-in-Bad-l c).In-Whole) bad)
+    in record { answer = whole.0; output = whole.1 }
 
 pub returns-in-Whole-l : goal.returns-in-Whole-l
-returns-in-Whole-l c =
+returns-in-Whole-l c = let whole =
     let l = lent_at (goal.at-returns-in-Whole-l c).Else-not-rising in
     let rows-of-loader = loader_rows_lem l.has_loader l.loader (nl (goal.at-returns-in-Whole-l c).In-Whole-l) (loader_whole (goal.at-returns-in-Whole-l c).In-Whole-l) in
-    ends_as (list_of l) _ _ _ _ (listed l _ (stood (goal.at-returns-in-Whole-l c).Else-not-rising) (ns (goal.at-returns-in-Whole-l c).In-Whole) (store_whole (goal.at-returns-in-Whole-l c).In-Whole) _ rows-of-loader) c.list.ensures
+    ends_as (list_of l) _ _ _ _ (listed l _ (stood (goal.at-returns-in-Whole-l c).Else-not-rising) (ns (goal.at-returns-in-Whole-l c).In-Whole) (store_whole (goal.at-returns-in-Whole-l c).In-Whole) _ rows-of-loader) (c.list.ensures.answer, c.list.ensures.output)
+    in record { answer = whole.0; output = whole.1 }

@@ -4,12 +4,15 @@ use Rattle.changes.specs.AnswerLaws.{ends_short, ends_rows}
 use Rattle.changes.proofs.list.Goals as goal
 
 pub returns-then-out-k : goal.returns-then-out-k
-returns-then-out-k c = ends_short _ _ _ c.count_changed-k.ensures (omega (arith, c.if-out-k.true))
+returns-then-out-k c = let whole =
+    ends_short _ _ _ c.count_changed-k.ensures (omega (arith, c.if-out-k.true))
+    in record { answer = whole.0; output = whole.1 }
 
 pub write_changed-requires : goal.write_changed-requires
 write_changed-requires c =
     (c.requires.0, c.requires.1, c.requires.2, omega (arith, c.count_changed-k.ensures, c.if-out-k.false))
 
 pub returns : goal.returns
-returns c =
+returns c = let whole =
     ends_rows _ _ _ _ c.count_changed-k.ensures c.if-out-k.false c.write_changed.ensures
+    in record { answer = whole.0; output = whole.1 }

@@ -8,10 +8,11 @@ use Rattle.changes.specs.MergeLaws.{copied_rows, copied_table, copied_rest, merg
 use Rattle.changes.proofs.merge.merge_whole.Goals as goal
 
 pub returns-then-out-ns : goal.returns-then-out-ns
-returns-then-out-ns c =
+returns-then-out-ns c = let whole =
     let a = c.args in
     merges_short (rows 40 a.n a.changes.now) (rows 40 a.ns a.store.now) a.out.now a.n a.ns
     (rows_length 40 a.n a.changes.now) (rows_length 40 a.ns a.store.now) c.if-out-ns.true
+    in record { answer = whole.0; output = whole.1 }
 
 pub put_rows-requires : goal.put_rows-requires
 put_rows-requires c =
@@ -24,7 +25,7 @@ put_rows-requires c =
     )
 
 pub returns : goal.returns
-returns c =
+returns c = let whole =
     let a = c.args in
     let cs = rows 40 a.n a.changes.now in
     let e = c.copy_in.ensures in
@@ -33,3 +34,4 @@ returns c =
     (c.put_rows.auto.t ∙ c.copy_in.auto.t) (λ j. (c.type_inv.out j).fits)
     (copied_rest a.store.now a.out.now _ a.ns c.requires.1 e)
     (c.put_rows.ensures.0 ∙ ap (merged cs) (copied_rows a.store.now a.out.now _ a.ns c.requires.1 e)) c.put_rows.ensures.1
+    in record { answer = whole.0; output = whole.1 }

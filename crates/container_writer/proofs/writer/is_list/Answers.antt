@@ -26,7 +26,7 @@ loop-left-init c =
 pub returns-then-not-begins_entry : goal.returns-then-not-begins_entry
 returns-then-not-begins_entry c =
     let list = c.args.list.now in
-    sym (c.loop-left.invariant.1 ∙ is_none c.loop-left.false (drop c.loop-left.at list) c.loop-left-test.true
+    sym (c.loop-left.invariant.1 ∙ is_none c.loop-left.left (drop c.loop-left.at list) c.loop-left-test.true
     (rw (rest c.loop-left.at list) at (sym c.begins_entry.ensures ∙ c.if-not-begins_entry.true)))
 
 entry_here : (c : Else-not-begins_entry) → begins_entry (drop c.loop-left.at c.args.list.now) ≡ true
@@ -54,10 +54,10 @@ pub loop-left-preserved : goal.loop-left-preserved
 loop-left-preserved c =
     let list = c.args.list.now in (
       (here c).within,
-      c.loop-left.invariant.1 ∙ is_turn c.loop-left.false (drop c.loop-left.at list) c.loop-left-test.true (entry_here (goal.at-loop-left-preserved c).Else-not-begins_entry)
-          ∙ ap (λ (xs : List ℕ). is_some (entries_in (c.loop-left.false - 1) xs)) (here c).after,
+      c.loop-left.invariant.1 ∙ is_turn c.loop-left.left (drop c.loop-left.at list) c.loop-left-test.true (entry_here (goal.at-loop-left-preserved c).Else-not-begins_entry)
+          ∙ ap (λ (xs : List ℕ). is_some (entries_in (c.loop-left.left - 1) xs)) (here c).after,
     )
 
 pub returns : goal.returns
 returns c =
-    sym (c.loop-left.invariant.1 ∙ is_whole c.loop-left.false c.loop-left.at c.args.list.now (omega arith) c.loop-left.invariant.0)
+    sym (c.loop-left.invariant.1 ∙ is_whole c.loop-left.left c.loop-left.at c.args.list.now (omega arith) c.loop-left.invariant.0)

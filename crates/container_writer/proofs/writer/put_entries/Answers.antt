@@ -11,12 +11,9 @@ use Rattle.container_writer.specs.Writer.{slots_in, entry_in, entries_in}
 use Rattle.container_writer.specs.WriterParts.{or_empty}
 use Rattle.container_writer.specs.WriterLaidLaws.{LaidRest, rest_start, rest_turn, rest_end, piece_room}
 use Rattle.container_writer.specs.WriterLaws.{after_entry, begins, EntryStep, step, More, more, bytes_turn, bytes_end}
+use Rattle.container_writer.proofs.writer.put_entries.Invariants.{bytes}
 use Rattle.container_writer.proofs.writer.put_entries.Goals as goal
 use Rattle.container_writer.proofs.writer.put_entries.Goals.{After-slots-n, In-loop-left}
-
--- the bytes of n entries of a list
-abbrev bytes : ℕ → List ℕ → List ℕ
-bytes n xs = entries_bytes (or_empty (entries_in n xs))
 
 pub loop-left-init : goal.loop-left-init
 loop-left-init c = (omega arith, c.requires.0, rest_start c.requires.1)
@@ -24,15 +21,15 @@ loop-left-init c = (omega arith, c.requires.0, rest_start c.requires.1)
 abbrev here : In-loop-left → List ℕ
 here c = drop c.loop-left.from c.args.list.now
 
-another : (c : In-loop-left) → More c.loop-left.false (here c)
-another c = more c.loop-left.false (here c) c.loop-left-test.true c.loop-left.invariant.1
+another : (c : In-loop-left) → More c.loop-left.left (here c)
+another c = more c.loop-left.left (here c) c.loop-left-test.true c.loop-left.invariant.1
 
 abbrev later : In-loop-left → List ℕ
-later c = bytes (c.loop-left.false - 1) (after_entry (here c))
+later c = bytes (c.loop-left.left - 1) (after_entry (here c))
 
 next : (c : In-loop-left) → let a = c.args in let l = c.loop-left in
     LaidRest a.out.now a.at (bytes a.n a.list.now) l.out l.end (entry_bytes (entry_in (here c)) ++ later c)
-next c = rw (bytes_turn c.loop-left.false (here c) (another c)) at c.loop-left.invariant.2
+next c = rw (bytes_turn c.loop-left.left (here c) (another c)) at c.loop-left.invariant.2
 
 pub put_entry-end-requires : goal.put_entry-end-requires
 put_entry-end-requires c =
@@ -58,7 +55,7 @@ overflow_add-from-in-loop-left c = omega (arith, (stands c).within)
 
 pub loop-left-preserved : goal.loop-left-preserved
 loop-left-preserved c =
-    let n = c.loop-left.false - 1 in
+    let n = c.loop-left.left - 1 in
     let e = (stands c).after in
     ((stands c).within, rw e at (another (goal.at-loop-left-preserved c).In-loop-left).next, rw e at (rest_turn (next (goal.at-loop-left-preserved c).In-loop-left) (rw (rest c.loop-left.from c.args.list.now) at c.put_entry-end.ensures)))
 
@@ -68,4 +65,4 @@ shape_of-out c = c.loop-left.invariant.2.same
 pub returns : goal.returns
 returns c =
     let list = c.args.list.now in
-    rest_end (rw (bytes_end c.loop-left.false (drop c.loop-left.from list) (omega arith)) at c.loop-left.invariant.2)
+    rest_end (rw (bytes_end c.loop-left.left (drop c.loop-left.from list) (omega arith)) at c.loop-left.invariant.2)

@@ -19,10 +19,10 @@ Left c out end rest = LaidRest c.args.out.now c.args.at (entry_bytes (entry c)) 
 
 -- the last pieces of the entry
 abbrev keyed_writes_on : Entry → List ℕ
-keyed_writes_on e = counted_bytes e.keyed-writes
+keyed_writes_on e = counted_bytes e.keyed_writes
 
 abbrev keyed_reads_on : Entry → List ℕ
-keyed_reads_on e = counted_bytes e.keyed-reads ++ keyed_writes_on e
+keyed_reads_on e = counted_bytes e.keyed_reads ++ keyed_writes_on e
 
 abbrev writes_on : Entry → List ℕ
 writes_on e = counted_bytes e.writes ++ keyed_reads_on e
@@ -95,7 +95,7 @@ pub put_slots-end-requires-3 : goal.put_slots-end-requires-3
 unfolding slots_in entry_in
 put_slots-end-requires-3 c =
     let e = entry (goal.at-put_slots-end-requires-3 c).Start in
-    (omega (arith, c.requires.0.whole), piece_room (counted_bytes e.keyed-reads) (keyed_writes_on e) (writes_left (goal.at-put_slots-end-requires-3 c).After-put_slots-end-2))
+    (omega (arith, c.requires.0.whole), piece_room (counted_bytes e.keyed_reads) (keyed_writes_on e) (writes_left (goal.at-put_slots-end-requires-3 c).After-put_slots-end-2))
 
 pub put_slots-requires : goal.put_slots-requires
 unfolding slots_in entry_in

@@ -8,7 +8,7 @@ pub returns : goal.returns
 returns c =
     let a = c.args in
     λ l rd wr st ld ch fe pd ok.
-    key_planned l (given rd wr a.keyed-reads.now a.keyed-writes.now st ld) a.c (key_bufs ch fe a.readable.now a.writable.now pd)
+    key_planned l (given rd wr a.keyed_reads.now a.keyed_writes.now st ld) a.c (key_bufs ch fe a.readable.now a.writable.now pd)
     ok a.base (num a.key.now)
     _ _ _ _ _ _ _ c.listed-write.ensures c.is_keyed-keyed.ensures c.has-written.ensures c.has-read.ensures
     c.key_price-price.ensures c.key_bytes-bytes.ensures c.key_room-room.ensures

@@ -17,7 +17,7 @@ other : (c : After-compare-o) (o : Order) → c.compare-o.result ≡ o → (o �
     false ≡ member (num a.key.now) (words_in a.list.now)
 other c o e ne =
     let a = c.args in
-    no_slot a.key.now a.list.now c.requires o (λ i. (c.shared-slice-known.given i).fits) (sym c.compare-o.ensures ∙ e) ne
+    no_slot a.key.now a.list.now c.requires o (λ i. (c.type_inv.list i).fits) (sym c.compare-o.ensures ∙ e) ne
 
 pub slice_bounds-compare-end : goal.slice_bounds-compare-end
 slice_bounds-compare-end c = sym (length-take-le 24 c.args.key.now (omega arith))

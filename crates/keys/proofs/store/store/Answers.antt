@@ -5,7 +5,7 @@ use Rattle.keys.specs.StoreLaws.{stored_so}
 use Rattle.keys.proofs.store.store.Goals as goal
 
 pub put_if-requires-2 : goal.put_if-requires-2
-put_if-requires-2 c = let (ready, key) = c.requires in (ready.fetched-held, key, ready.fetched-fit)
+put_if-requires-2 c = let (ready, key) = c.requires in (ready.fetched_held, key, ready.fetched_fit)
 
 pub returns : goal.returns
 returns c =

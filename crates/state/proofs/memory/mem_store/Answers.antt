@@ -1,0 +1,13 @@
+-- `mem_store` meets its contract: the region decides. Assumes nothing.
+use Rattle.state.specs.MemoryLaws.{part_within, store_inside, store_outside}
+use Rattle.state.proofs.memory.mem_store.Goals as goal
+
+pub write-requires : goal.write-requires
+write-requires c = search part_within
+
+pub returns-in-Part : goal.returns-in-Part
+returns-in-Part c =
+    store_inside _ _ _ _ _ _ _ c.mem_region-region.ensures c.in-Part.is c.write.ensures
+
+pub returns-in-Outside : goal.returns-in-Outside
+returns-in-Outside c = store_outside _ _ _ _ c.mem_region-region.ensures c.in-Outside.is

@@ -26,7 +26,7 @@ use Rattle.machine.specs.declared.action.Post.{Post}
 use Rattle.machine.specs.declared.action.Check.{Check}
 use Rattle.machine.specs.declared.run.Run.{Run}
 use Rattle.machine.specs.declared.turn.Turn.{Turn}
-use Rattle.ops_moves.specs.Contracts.{Moves, Jumps}
+use Rattle.ops_moves.specs.Around.{Moves, Jumps}
 use Rattle.ops_posts.specs.EffectRules.{Posts}
 use Rattle.interp.specs.Operated.{Operates}
 use Rattle.interp.specs.Ties.{GivenParts, Suits, Ready, Steps}

@@ -1,5 +1,5 @@
 -- Before the first step: no rows, nothing known.
-use Rattle.std.specs.Prelude.{[], ℕ}
+use Rattle.std.specs.Prelude.{[]}
 use Rattle.keys.specs.Known.{Keys}
 use Rattle.keys.specs.declared.counts.Counts.{Counts}
 

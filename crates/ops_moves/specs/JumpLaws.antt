@@ -15,7 +15,7 @@ use Rattle.machine.specs.RunParts.{with_place}
 use Rattle.machine.specs.SoundLaws.{place_sound}
 use Rattle.machine.specs.declared.run.Run.{Run}
 use Rattle.machine.specs.declared.turn.Turn.{Turn}
-use Rattle.ops_moves.specs.Contracts.{Around, DoesIn, JumpsTo}
+use Rattle.ops_moves.specs.Around.{Around, DoesIn, JumpsTo}
 use Rattle.ops_moves.specs.MoveLaws.{move_goes_on}
 
 -- a marked place is within the map

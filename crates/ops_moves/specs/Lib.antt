@@ -1,5 +1,5 @@
 -- what the code claims
-pub mod Contracts
+pub mod Around
 -- laws
 pub mod MoveLaws
 pub mod JumpLaws

@@ -29,7 +29,7 @@ use Rattle.machine.specs.SoundLaws.{depth_sound, memory_sound, stack_sound}
 use Rattle.machine.specs.StackLaws.{stack_length, stack_pushed, stack_popped}
 use Rattle.machine.specs.declared.run.Run.{Run}
 use Rattle.machine.specs.declared.turn.Turn.{Turn}
-use Rattle.ops_moves.specs.Contracts.{Around, DoesIn, Constants, MemoryLoads, MemoryStores}
+use Rattle.ops_moves.specs.Around.{Around, DoesIn, Constants, MemoryLoads, MemoryStores}
 
 -- ---- constants
 

@@ -1,6 +1,6 @@
 // Jumps, calls and returns.
 ghost use Rattle.std.specs.Prelude.{◌≤◌, length};
-ghost use Rattle.ops_moves.specs.Contracts.{Jumps, JumpsTo, Calls, Returns};
+ghost use Rattle.ops_moves.specs.Around.{Jumps, JumpsTo, Calls, Returns};
 
 use machine::action::Jump;
 use machine::run::Run;

@@ -1,6 +1,6 @@
 // Constants, the stack and memory.
 ghost use Rattle.std.specs.Prelude.{◌≤◌, length};
-ghost use Rattle.ops_moves.specs.Contracts.{Moves, Constants, Pushes, Pops, MemoryLoads, MemoryStores};
+ghost use Rattle.ops_moves.specs.Around.{Moves, Constants, Pushes, Pops, MemoryLoads, MemoryStores};
 
 use machine::action::Move;
 use machine::run::Run;

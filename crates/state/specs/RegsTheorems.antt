@@ -39,7 +39,7 @@ wide_keeps w f dlo dhi alo ahi blo bhi = pick_keeps (wide_reg f blo bhi == 0) f 
 pub step_keeps : (i : Instr) (f : RegFile) → FaultKeeps f (register_step i f)
 unfolding register_step
 step_keeps i f =
-    elim i [
+    elim i as (λ (i : Instr). FaultKeeps f (register_step i f)) [
       | instr.Halt ↦ λ n. refl
       | instr.Nop ↦ λ n. refl
       | instr.Mov d a ↦ done_keeps f _

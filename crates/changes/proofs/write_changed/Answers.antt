@@ -1,6 +1,6 @@
 -- `changes::write_changed` meets its contract: what changed of the first i rows is written up to `to`, and what is left decides. Assumes nothing.
 use mathlib.Core.Path.{◌≡◌, sym, ◌∙◌}
-use Prim.Native.Nat.{◌+◌, ◌-◌, ◌≤◌}
+use Prim.Native.Nat.{◌+◌, ◌≤◌}
 use native.Mathlib.Omega.{arith}
 use lib.ListN.{length}
 use Rattle.changes.specs.LeftLaws.{row_part, part_length}

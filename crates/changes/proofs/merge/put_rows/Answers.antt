@@ -1,5 +1,4 @@
 -- `merge::put_rows` meets its contract: i rows are in, and what is left decides. Assumes nothing.
-use Prim.Native.Nat.{◌-◌}
 use native.Mathlib.Omega.{arith}
 use Rattle.changes.specs.LeftLaws.{part_length}
 use Rattle.changes.specs.MergeLaws.{putting_start, putting_turn, putting_end}

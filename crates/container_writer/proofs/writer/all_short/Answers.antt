@@ -1,6 +1,6 @@
 -- `all_short` meets its contract. The loop's invariant: what is left of the numbers decides. Assumes nothing.
 use mathlib.Core.Path.{sym, ◌∙◌}
-use Prim.Native.Nat.{◌-◌, ◌^◌}
+use Prim.Native.Nat.{◌^◌}
 use lib.ListN.{get_or}
 use borrow.Author.Tests.{le-ltb, lt-ltb}
 use Rattle.container_writer.specs.WriterLaws.{short_turn, short_end}

@@ -1,14 +1,12 @@
 -- `put_entries` meets its contract. The loop's invariant: what is left of the list are entries, and their bytes are left to lay down. Assumes nothing.
 use mathlib.Core.Path.{ap, ◌∙◌}
-use mathlib.Core.Bool.{true}
 use mathlib.Core.List.{List, ◌++◌}
 use Prim.Native.Nat.{ℕ, ◌-◌}
 use native.Mathlib.Omega.{arith}
 use lib.ListN.{drop}
 use Rattle.words.specs.BytesLaws.{rest}
-use Rattle.container.specs.Canonical.{entry_bytes, entries_bytes}
-use Rattle.container_writer.specs.Writer.{slots_in, entry_in, entries_in}
-use Rattle.container_writer.specs.WriterParts.{or_empty}
+use Rattle.container.specs.Canonical.{entry_bytes}
+use Rattle.container_writer.specs.Writer.{slots_in, entry_in}
 use Rattle.container_writer.specs.WriterLaidLaws.{LaidRest, rest_start, rest_turn, rest_end, piece_room}
 use Rattle.container_writer.specs.WriterLaws.{after_entry, begins, EntryStep, step, More, more, bytes_turn, bytes_end}
 use Rattle.container_writer.proofs.writer.put_entries.Invariants.{bytes}

@@ -1,6 +1,6 @@
 -- `put_words` meets its contract. The loop's invariant: the words from the i-th on are left to lay down. Assumes nothing.
 use mathlib.Core.List.{List, ◌++◌}
-use Prim.Native.Nat.{ℕ, ◌+◌, ◌-◌}
+use Prim.Native.Nat.{ℕ, ◌+◌}
 use lib.ListN.{drop, get_or}
 use Rattle.words.specs.Bytes.{be_bytes}
 use Rattle.container.specs.Canonical.{word_bytes}

@@ -1,6 +1,5 @@
 -- `keys::slots::listed` meets its contract: what halving finds is among the words; in the walk those from i on decide. Assumes nothing.
 use mathlib.Core.Path.{refl, sym, ◌∙◌}
-use Prim.Native.Nat.{◌-◌}
 use native.Mathlib.Omega.{arith}
 use Rattle.keys.specs.SlotLaws.{listed_start, listed_hit, listed_on, listed_end}
 use Rattle.keys.proofs.slots.listed.Goals as goal

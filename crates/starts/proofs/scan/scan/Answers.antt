@@ -1,6 +1,6 @@
 -- `scan` meets its contract. The loop's invariant: what is left of the code decides, and completes the map. Assumes nothing.
 use mathlib.Core.Path.{◌≡◌, sym, ap, ◌∙◌}
-use Prim.Native.Nat.{ℕ, ◌-◌}
+use Prim.Native.Nat.{ℕ}
 use native.Mathlib.Omega.{arith}
 use Rattle.isa.specs.Codec.{decode_at}
 use Rattle.isa.specs.RoundTripTheorems.{Place, decode_place}

@@ -6,8 +6,11 @@ pub write-requires : goal.write-requires
 write-requires c = search part_within
 
 pub returns-in-Part : goal.returns-in-Part
-returns-in-Part c =
+returns-in-Part c = let whole =
     store_inside _ _ _ _ _ _ _ c.mem_region-region.ensures c.in-Part.is c.write.ensures
+    in record { answer = whole.0; contents = whole.1 }
 
 pub returns-in-Outside : goal.returns-in-Outside
-returns-in-Outside c = store_outside _ _ _ _ c.mem_region-region.ensures c.in-Outside.is
+returns-in-Outside c = let whole =
+    store_outside _ _ _ _ c.mem_region-region.ensures c.in-Outside.is
+    in record { answer = whole.0; contents = whole.1 }

@@ -4,7 +4,9 @@ use Rattle.state.specs.StackLaws.{push_room, push_full}
 use Rattle.state.proofs.stack.push.Goals as goal
 
 pub returns-then-stack-depth : goal.returns-then-stack-depth
-returns-then-stack-depth c = let a = c.args in push_full a.stack.now a.depth a.v c.if-stack-depth.true
+returns-then-stack-depth c = let whole =
+    let a = c.args in push_full a.stack.now a.depth a.v c.if-stack-depth.true
+    in record { answer = whole.0; contents = whole.1 }
 
 pub returns : goal.returns
-returns c = search (push_room, rules)
+returns c = record { answer = push_room _ _ c.if-stack-depth.false; contents = search rules }

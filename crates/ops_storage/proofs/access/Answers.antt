@@ -28,7 +28,7 @@ slice_bounds-key-end c = part_ends (length c.args.memory.now) _ 32 _ c.mem_regio
 
 pub load_key-requires : goal.load_key-requires
 load_key-requires c =
-    (c.requires.0, c.requires.1, (c.args.writable.now, c.args.paid.now, c.requires.2), part_length c.args.memory.now _ 32 _ c.mem_region-region.ensures _ _ c.region.given.1)
+    (c.requires.0, c.requires.1, (c.args.writable.now, c.args.paid.now, c.requires.2), part_length c.args.memory.now _ 32 _ c.mem_region-region.ensures _ _ c.in-Part.is)
 
 pub store_key-requires : goal.store_key-requires
 store_key-requires c =
@@ -39,7 +39,7 @@ returns-in-SLoad c =
     let a = c.args in
     λ e s kr kw stack log d ek.
     load_inside e s d (file_at (goal.at-returns-in-SLoad c).Start) a.run (lent_at (goal.at-returns-in-SLoad c).Start stack log) a.o _ _ c.key_register.ensures c.read-place.ensures _ c.mem_region-region.ensures _ _
-    _ _ c.region.given.1 _ _ c.o.given.1 (c.load_key.ensures e s kr kw a.writable.now a.paid.now a.memory.now stack log d (file_at (goal.at-returns-in-SLoad c).Start) ek)
+    _ _ c.in-Part.is _ _ c.in-SLoad.is (c.load_key.ensures e s kr kw a.writable.now a.paid.now a.memory.now stack log d (file_at (goal.at-returns-in-SLoad c).Start) ek)
 
 pub returns-in-SStore : goal.returns-in-SStore
 returns-in-SStore c =

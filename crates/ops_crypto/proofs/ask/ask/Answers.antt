@@ -36,7 +36,7 @@ slice_bounds-mem_write-end c = sym (length-take-le _ _ (within (goal.at-slice_bo
 
 pub overflow_add-after : goal.overflow_add-after
 overflow_add-after c =
-    omega (arith, left (goal.at-overflow_add-after c).Else-replies-run-lt48, c.well-formed.1.0)
+    omega (arith, left (goal.at-overflow_add-after c).Else-replies-run-lt48, c.well_formed.1.0)
 
 pub returns : goal.returns
 returns c =

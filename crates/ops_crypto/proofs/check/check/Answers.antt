@@ -18,7 +18,7 @@ use Rattle.ops_crypto.proofs.check.check.Goals.{After-pay, Start}
 
 -- a limit is a word
 limit_fits : (c : Start) → c.args.run.meter.limit < 2 ^ 64
-limit_fits c = omega (arith, c.well-formed.1.0)
+limit_fits c = omega (arith, c.well_formed.1.0)
 
 abbrev registers : Start → RegFile
 registers c = file c.args.regs.now

@@ -6,12 +6,12 @@ use Rattle.ops_crypto.proofs.check.price.Goals as goal
 
 pub returns-in-VerifyMl : goal.returns-in-VerifyMl
 unfolding check_price
-returns-in-VerifyMl c = rw (c.in-VerifyMl.is, ← c.read.ensures) (uncapped _ _ c.message_variable.type-inv c.message_variable.ensures)
+returns-in-VerifyMl c = rw (c.in-VerifyMl.is, ← c.read.ensures) (uncapped _ _ c.message_variable.type_inv c.message_variable.ensures)
 
 pub returns-in-VerifySlh : goal.returns-in-VerifySlh
 unfolding check_price
 returns-in-VerifySlh c =
-    rw (c.in-VerifySlh.is, ← c.read-in-VerifySlh.ensures) (uncapped _ _ c.message_variable-in-VerifySlh.type-inv c.message_variable-in-VerifySlh.ensures)
+    rw (c.in-VerifySlh.is, ← c.read-in-VerifySlh.ensures) (uncapped _ _ c.message_variable-in-VerifySlh.type_inv c.message_variable-in-VerifySlh.ensures)
 
 pub returns-in-MerkleVerify : goal.returns-in-MerkleVerify
 unfolding check_price

@@ -14,7 +14,7 @@ use Rattle.ops_crypto.specs.PayLaws.{Priced}
 use Rattle.ops_crypto.specs.HashLaws.{hash_pays}
 use Rattle.ops_crypto.specs.AskLaws.{asked_stops, asked_on}
 use Rattle.ops_crypto.proofs.hash.hash.Goals as goal
-use Rattle.ops_crypto.proofs.hash.hash.Goals.{After-ask-t, After-memory-1, After-pay, Start}
+use Rattle.ops_crypto.proofs.hash.hash.Goals.{After-ask-t, After-pay, Start}
 
 -- the registers, the bytes lent, and what follows the reply
 abbrev registers : Start → RegFile
@@ -24,7 +24,7 @@ abbrev lent_at : Start → (stack ch fe pd log : List ℕ) → Bufs
 lent_at c stack ch fe pd log = let a = c.args in lent_to a.memory.now stack ch fe a.readable.now a.writable.now pd log
 
 abbrev then : After-pay → Env → Machine → Rule
-then c e = tainting e (base_in c.base_at-base.result) c.read-at.result
+then c e = tainting e (base_in c.base_at-base.result) c.read-out.result
 
 pays : (c : After-pay) (e : Env) (stack ch fe pd log : List ℕ) (d : ℕ) → let a = c.args in
     Priced e a.replies.now d (registers (goal.at-After-pay c).Start) a.run (lent_at (goal.at-After-pay c).Start stack ch fe pd log) (hash_of e a.a a.b a.c) (λ m. asking m (then c e)) c.pay.result
@@ -32,7 +32,7 @@ pays c e stack ch fe pd log d =
     let base = c.base_at-base in
     let a = c.args in
     hash_pays e a.replies.now d (registers (goal.at-After-pay c).Start) a.a a.b a.c a.run (lent_at (goal.at-After-pay c).Start stack ch fe pd log)
-    _ _ _ c.read.ensures c.read-at.ensures c.read-at.ensures base.result base.ensures _ c.hash_variable.ensures _ c.pay.ensures
+    _ _ _ c.read-at.ensures c.read-len.ensures c.read-out.ensures base.result base.ensures _ c.hash_variable.ensures _ c.pay.ensures
 
 -- the machine that asks for the reply
 abbrev machine_at : After-ask-t → (stack ch fe pd log : List ℕ) → Machine
@@ -62,5 +62,5 @@ pub returns : goal.returns
 returns c =
     λ e l rd wr st ld ch fe pd stack log d ek.
     (pays (goal.at-returns c).After-pay e stack ch fe pd log d).on _ _ _ c.in-Done.is
-    (λ sixteen so. asked_on e c.args.replies.now d (registers (goal.at-returns c).Start) (machine_at (goal.at-returns c).After-memory-1 stack ch fe pd log) _ _ _ _ (c.ask-t.ensures.turn e stack log d (lent_at (goal.at-returns c).Start stack ch fe pd log).keys (registers (goal.at-returns c).Start) sixteen so) (then (goal.at-returns c).After-pay e) _ _ c.if-t-ne0.false
+    (λ sixteen so. asked_on e c.args.replies.now d (registers (goal.at-returns c).Start) (machine_at (goal.at-returns c).After-ask-t stack ch fe pd log) _ _ _ _ (c.ask-t.ensures.turn e stack log d (lent_at (goal.at-returns c).Start stack ch fe pd log).keys (registers (goal.at-returns c).Start) sixteen so) (then (goal.at-returns c).After-pay e) _ _ c.if-t-ne0.false
     (c.taint.ensures e c.args.replies.now rd wr st ld stack ch fe pd log d (registers (goal.at-returns c).Start) l ek sixteen))

@@ -22,8 +22,9 @@ use Rattle.ops_crypto.specs.declared.taint.Base.{Base}
 use Rattle.ops_crypto.specs.Taints.{base_in, admitting}
 use Rattle.ops_crypto.specs.TaintLaws.{admit_not, admit_unpaid, taint_none, taint_outside, taint_inside}
 use Rattle.ops_crypto.specs.AuthoriseLaws.{authorise_capped, authorise_full, authorise_done}
+use borrow.Author.Tests.{not-true, not-false}
 use Rattle.ops_crypto.proofs.taint.taint.Goals as goal
-use Rattle.ops_crypto.proofs.taint.taint.Goals.{After-struct_known-2-1, In-Part, In-Part-2, Start}
+use Rattle.ops_crypto.proofs.taint.taint.Goals.{After-struct_known-2-1, In-Part, Start}
 
 -- what a run is given about keys, the bytes lent, the key
 abbrev given_at : Start → (rd wr st ld : List ℕ) → Given
@@ -36,13 +37,13 @@ abbrev base_at : In-Part → ℕ
 base_at c = c.in-Number.n
 
 abbrev key_at : In-Part → List ℕ
-key_at c = let g = c.at-1.given.0 in take (g.1.0 - g.0) (drop g.0 c.args.memory.now)
+key_at c = let g = c.in-Part in take (g.end - g.at) (drop g.at c.args.memory.now)
 
 -- the store and the loader are not looked at
 nothing_lent : TableRows
 nothing_lent = record { store = 0; has_loader = false; loader = 0 }
 
-part : (c : In-Part) → let g = c.at-1.given.0 in (g.0 ≤ g.1.0) × (g.1.0 ≤ length c.args.memory.now)
+part : (c : In-Part) → let g = c.in-Part in (g.at ≤ g.end) × (g.end ≤ length c.args.memory.now)
 part c =
     let n = length c.args.memory.now in (
       part_ordered n _ 32 _ c.mem_region.ensures _ _ c.in-Part.is,
@@ -77,7 +78,7 @@ returns-in_default-mem_region c =
 
 pub plan_authorise-plan-requires : goal.plan_authorise-plan-requires
 plan_authorise-plan-requires c =
-    let good = c.requires.1.3 in (good.may_read.table, good.may_write.table, key_length (goal.at-plan_authorise-plan-requires c).In-Part-2)
+    let good = c.requires.1.3 in (good.may_read.table, good.may_write.table, key_length (goal.at-plan_authorise-plan-requires c).In-Part)
 
 pub returns-then-not-plan : goal.returns-then-not-plan
 returns-then-not-plan c =
@@ -85,7 +86,7 @@ returns-then-not-plan c =
     λ e s rd wr st ld stack ch fe pd log d f l ek.
     on_key (goal.at-returns-then-not-plan c).In-Part e s stack ch fe pd log d f _ _
     (admit_not e s d f a.run a.put (lent_at (goal.at-returns-then-not-plan c).Start stack ch fe pd log) l (given_at (goal.at-returns-then-not-plan c).Start rd wr st ld) ek (base_at (goal.at-returns-then-not-plan c).In-Part) (num (key_at (goal.at-returns-then-not-plan c).In-Part)) _ _
-    (λ so. c.plan_authorise-plan.ensures l rd wr st ld ch fe pd so.tables) c.if-not-plan.true c.go_with-then-not-plan.ensures)
+    (λ so. c.plan_authorise-plan.ensures l rd wr st ld ch fe pd so.tables) (not-true _ c.if-not-plan.true) c.go_with-then-not-plan.ensures)
 
 pub returns-in_default-pay : goal.returns-in_default-pay
 returns-in_default-pay c =
@@ -93,7 +94,7 @@ returns-in_default-pay c =
     λ e s rd wr st ld stack ch fe pd log d f l ek.
     on_key (goal.at-returns-in_default-pay c).In-Part e s stack ch fe pd log d f _ _
     (admit_unpaid e s d f a.run a.put (lent_at (goal.at-returns-in_default-pay c).Start stack ch fe pd log) l (given_at (goal.at-returns-in_default-pay c).Start rd wr st ld) ek (base_at (goal.at-returns-in_default-pay c).In-Part) (num (key_at (goal.at-returns-in_default-pay c).In-Part)) _
-    c.if-not-plan.false _ c.pay.ensures _ _ (λ so. c.plan_authorise-plan.ensures l rd wr st ld ch fe pd so.tables)
+    (not-false _ c.if-not-plan.false) _ c.pay.ensures _ _ (λ so. c.plan_authorise-plan.ensures l rd wr st ld ch fe pd so.tables)
     c.in_default-pay.is c.stop.ensures)
 
 -- the run that paid, and that it has the same keys and total
@@ -115,7 +116,7 @@ returns-then-rest-plan c =
     λ e s rd wr st ld stack ch fe pd log d f l ek.
     on_key (goal.at-returns-then-rest-plan c).In-Part e s stack ch fe pd log d f _ _
     (authorise_capped e s d f a.run a.put (lent_at (goal.at-returns-then-rest-plan c).Start stack ch fe pd log) l (given_at (goal.at-returns-then-rest-plan c).Start rd wr st ld) ek (base_at (goal.at-returns-then-rest-plan c).In-Part) (num (key_at (goal.at-returns-then-rest-plan c).In-Part)) _
-    c.if-not-plan.false _ c.pay.ensures (λ so. c.plan_authorise-plan.ensures l rd wr st ld ch fe pd so.tables) _ c.in-Done.is (few (goal.at-returns-then-rest-plan c).After-struct_known-2-1)
+    (not-false _ c.if-not-plan.false) _ c.pay.ensures (λ so. c.plan_authorise-plan.ensures l rd wr st ld ch fe pd so.tables) _ c.in-Done.is (few (goal.at-returns-then-rest-plan c).After-struct_known-2-1)
     _ _ c.stop-then-rest-plan.ensures c.if-rest-plan.true)
 
 pub returns-then-not-plan-2 : goal.returns-then-not-plan-2
@@ -124,8 +125,8 @@ returns-then-not-plan-2 c =
     λ e s rd wr st ld stack ch fe pd log d f l ek.
     on_key (goal.at-returns-then-not-plan-2 c).In-Part e s stack ch fe pd log d f _ _
     (authorise_full e s d f a.run a.put (lent_at (goal.at-returns-then-not-plan-2 c).Start stack ch fe pd log) l (given_at (goal.at-returns-then-not-plan-2 c).Start rd wr st ld) ek (base_at (goal.at-returns-then-not-plan-2 c).In-Part) (num (key_at (goal.at-returns-then-not-plan-2 c).In-Part)) _
-    c.if-not-plan.false _ c.pay.ensures (λ so. c.plan_authorise-plan.ensures l rd wr st ld ch fe pd so.tables) _ c.in-Done.is (few (goal.at-returns-then-not-plan-2 c).After-struct_known-2-1)
-    c.if-rest-plan.false _ _ c.stop-then-not-plan-2.ensures c.if-not-plan-2.true)
+    (not-false _ c.if-not-plan.false) _ c.pay.ensures (λ so. c.plan_authorise-plan.ensures l rd wr st ld ch fe pd so.tables) _ c.in-Done.is (few (goal.at-returns-then-not-plan-2 c).After-struct_known-2-1)
+    c.if-rest-plan.false _ _ c.stop-then-not-plan-2.ensures (not-true _ c.if-not-plan-2.true))
 
 pub overflow_add-after : goal.overflow_add-after
 overflow_add-after c = omega (arith, few (goal.at-overflow_add-after c).After-struct_known-2-1, c.if-rest-plan.false)
@@ -136,19 +137,19 @@ authorise-after-requires c =
     let lists = c.requires.1 in (
       rw (ap (λ (x : Run). x.counts) (paid_is a.run _ _ _ c.pay.ensures c.in-Done.is))
           (key_ready nothing_lent (given_at (goal.at-authorise-after-requires c).Start [] [] [] []) a.run.counts (key_bufs lists.0 lists.1 a.readable.now a.writable.now lists.2) lists.3 (base_at (goal.at-authorise-after-requires c).In-Part) (num (key_at (goal.at-authorise-after-requires c).In-Part)) _
-          (c.plan_authorise-plan.ensures nothing_lent [] [] [] [] lists.0 lists.1 lists.2 lists.3) c.if-not-plan-2.false),
+          (c.plan_authorise-plan.ensures nothing_lent [] [] [] [] lists.0 lists.1 lists.2 lists.3) (not-false _ c.if-not-plan-2.false)),
       key_length (goal.at-authorise-after-requires c).In-Part,
     )
 
 pub returns : goal.returns
 returns c =
     let a = c.args in
-    let kept = c.authorise-after.auto.1.1 in
+    let kept = c.authorise-after.auto in
     λ e s rd wr st ld stack ch fe pd log d f l ek.
     on_key (goal.at-returns c).In-Part e s stack ch fe pd log d f _ _
     (authorise_done e s d f a.run a.put (lent_at (goal.at-returns c).Start stack ch fe pd log) l (given_at (goal.at-returns c).Start rd wr st ld) ek (base_at (goal.at-returns c).In-Part) (num (key_at (goal.at-returns c).In-Part)) _
-    c.if-not-plan.false _ c.pay.ensures (λ so. c.plan_authorise-plan.ensures l rd wr st ld ch fe pd so.tables) _ c.in-Done.is (few (goal.at-returns c).After-struct_known-2-1)
-    c.if-rest-plan.false _ _ _ kept.0 kept.1.0 _ c.go_with-2.ensures c.if-not-plan-2.false
+    (not-false _ c.if-not-plan.false) _ c.pay.ensures (λ so. c.plan_authorise-plan.ensures l rd wr st ld ch fe pd so.tables) _ c.in-Done.is (few (goal.at-returns c).After-struct_known-2-1)
+    c.if-rest-plan.false _ _ _ kept.readable kept.writable _ c.go_with-2.ensures (not-false _ c.if-not-plan-2.false)
     (λ so z. c.authorise-after.ensures l (given_at (goal.at-returns c).Start rd wr st ld) (base_at (goal.at-returns c).In-Part) ch fe pd so.tables z))
 
 pub slice_bounds-key-count : goal.slice_bounds-key-count

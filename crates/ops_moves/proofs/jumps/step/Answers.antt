@@ -41,4 +41,4 @@ returns-in-Call c =
 
 pub returns-in-Ret : goal.returns-in-Ret
 unfolding machine_of jump_of
-returns-in-Ret c = rw c.enum_told.given.1 (λ x mem. c.ret.ensures x _ mem)
+returns-in-Ret c = rw c.in-Ret.is (λ x mem. c.ret.ensures x _ mem)

@@ -20,12 +20,12 @@ returns-in-Push c =
 
 pub returns-in-Pop : goal.returns-in-Pop
 unfolding machine_of move_of
-returns-in-Pop c = rw c.o3.given.1 (λ x q. c.pop.ensures x _ _)
+returns-in-Pop c = rw c.in-Pop.is (λ x q. c.pop.ensures x _ _)
 
 pub returns-in-MLoad : goal.returns-in-MLoad
 unfolding machine_of move_of
 returns-in-MLoad c =
-    rw c.o4.given.1 (λ x q. rw c.read-in-MLoad.ensures at (c.load.ensures x (file c.args.regs.now) c.args.stack.now))
+    rw c.in-MLoad.is (λ x q. rw c.read-in-MLoad.ensures at (c.load.ensures x (file c.args.regs.now) c.args.stack.now))
 
 pub returns-in-MStore : goal.returns-in-MStore
 unfolding machine_of move_of

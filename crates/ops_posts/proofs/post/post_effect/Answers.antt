@@ -19,13 +19,13 @@ use Rattle.ops_posts.proofs.post.post_effect.Goals.{After-append-arg-1, After-st
 
 -- the bytes of the region, and the effect that they make
 abbrev bytes_at : In-Part → List ℕ
-bytes_at c = let g = c.start-1.given.0 in take (g.1.0 - g.0) (drop g.0 c.args.memory.now)
+bytes_at c = let g = c.in-Part in take (g.end - g.start) (drop g.start c.args.memory.now)
 
 abbrev effect_at : In-Part → Effect
 effect_at c = effect c.args.kind c.args.word (bytes_at c)
 
 -- the part that the region found, in order and within memory
-part : (c : In-Part) → let g = c.start-1.given.0 in (g.0 ≤ g.1.0) × (g.1.0 ≤ length c.args.memory.now)
+part : (c : In-Part) → let g = c.in-Part in (g.start ≤ g.end) × (g.end ≤ length c.args.memory.now)
 part c =
     let a = c.args in (
       part_ordered (length a.memory.now) a.at a.n _ c.mem_region.ensures _ _ c.in-Part.is,
@@ -33,7 +33,7 @@ part c =
     )
 
 small : (c : In-Part) → length (bytes_at c) ≤ 65536
-small c = let g = c.start-1.given.0 in part_short c.args.memory.now g.0 g.1.0 c.requires.4
+small c = let g = c.in-Part in part_short c.args.memory.now g.start g.end c.requires.4
 
 -- the region's bytes in place of the region
 on_region : (c : In-Part) (u : List ℕ) (r : Turn) → Comes (λ e. charging e (effect_at c)) c.args.run c.args.log.now u r
@@ -73,7 +73,7 @@ on_paid : (c : After-append-arg-1) (u : List ℕ) (r : Turn) → Comes (λ e. po
     → Comes (λ e. charging e (effect_at (goal.at-After-append-arg-1 c).In-Part)) c.args.run c.args.log.now u r
 on_paid c u r h =
     pay_comes c.pay.ensures c.in-Done.is
-    (total_comes (effect_at (goal.at-After-append-arg-1 c).In-Part) _ _ _ _ _ c.if1.false c.price-price.ensures
+    (total_comes (effect_at (goal.at-After-append-arg-1 c).In-Part) _ _ _ _ _ c.if-counted-gt1048576.false c.price-price.ensures
     (pay_comes c.pay-2.ensures c.in-Done-pay.is h))
 
 pub returns-in_default : goal.returns-in_default
@@ -108,7 +108,7 @@ returns-in_default-pay-2 c =
     rw c.stop-in_default-pay-2.ensures
     (on_region (goal.at-returns-in_default-pay-2 c).In-Part _ _
     (pay_comes c.pay.ensures c.in-Done.is
-    (total_comes (effect_at (goal.at-returns-in_default-pay-2 c).In-Part) _ _ _ _ _ c.if1.false c.price-price.ensures (pay_ends c.pay-2.ensures c.in_default-pay-2.is))))
+    (total_comes (effect_at (goal.at-returns-in_default-pay-2 c).In-Part) _ _ _ _ _ c.if-counted-gt1048576.false c.price-price.ensures (pay_ends c.pay-2.ensures c.in_default-pay-2.is))))
 
 pub append-requires : goal.append-requires
 append-requires c = (rw (kept c).0 c.requires.0, omega (arith, small (goal.at-append-requires c).In-Part))

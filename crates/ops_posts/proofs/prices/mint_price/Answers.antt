@@ -22,4 +22,4 @@ pub returns : goal.returns
 unfolding target_of mints
 returns c =
     let p = c.target_price.ensures in
-    (p.0, λ es sm b. rw (eq-eqb _ mint_word c.if1.false, le-leb 40 _ c.if2.false) (p.1 es sm b))
+    (p.0, λ es sm b. rw (eq-eqb _ mint_word c.if-word-ne-MINT.false, le-leb 40 _ c.if-bytes-lt40.false) (p.1 es sm b))

@@ -1,7 +1,6 @@
 -- `ops_storage::load::load_key` meets its contract: the right, then the room, then the value. Assumes nothing.
 use mathlib.Core.List.{List, []}
 use Prim.Native.Nat.{ℕ}
-use borrow.Author.Tests.{not-false}
 use Rattle.words.specs.Bytes.{num}
 use Rattle.keys.specs.Values.{look}
 use Rattle.keys.specs.LoadLaws.{load_ready}
@@ -28,8 +27,8 @@ unfolding look
 returns-then-not-load_room c =
     let a = c.args in
     λ e s kr kw mw pd memory stack log d f ek sixteen so.
-    load_full e s d f a.lent (given_at (goal.at-returns-then-not-load_room c).Start kr kw) a.run (lent_at (goal.at-returns-then-not-load_room c).Start mw pd memory stack log) a.to (num a.key.now) _ c.may_load.ensures (not-false _ c.if1.false)
-    _ (c.load_room.ensures a.lent (given_at (goal.at-returns-then-not-load_room c).Start kr kw) a.changes.now a.readable.now mw pd so.tables c.look_up.ensures)
+    load_full e s d f a.lent (given_at (goal.at-returns-then-not-load_room c).Start kr kw) a.run (lent_at (goal.at-returns-then-not-load_room c).Start mw pd memory stack log) a.to (num a.key.now) _ c.may_load.ensures c.if-not-may_load.false
+    _ (c.load_room.ensures a.lent (given_at (goal.at-returns-then-not-load_room c).Start kr kw) a.changes.now a.readable.now mw pd so.tables c.look_up-seen.ensures)
     _ _ c.stop-then-not-load_room.ensures c.if-not-load_room.true ek sixteen so
 
 pub load-after-requires : goal.load-after-requires
@@ -39,8 +38,8 @@ load-after-requires c =
     let rest = c.requires.2 in (
       rest.2.fetched.table,
       c.requires.3,
-      load_ready a.lent (given_at (goal.at-load-after-requires c).Start [] []) a.run.counts (key_bufs a.changes.now a.fetched.now a.readable.now rest.0 rest.1) rest.2 (num a.key.now) _ c.look_up.ensures
-          _ (c.load_room.ensures a.lent (given_at (goal.at-load-after-requires c).Start [] []) a.changes.now a.readable.now rest.0 rest.1 rest.2 c.look_up.ensures)
+      load_ready a.lent (given_at (goal.at-load-after-requires c).Start [] []) a.run.counts (key_bufs a.changes.now a.fetched.now a.readable.now rest.0 rest.1) rest.2 (num a.key.now) _ c.look_up-seen.ensures
+          _ (c.load_room.ensures a.lent (given_at (goal.at-load-after-requires c).Start [] []) a.changes.now a.readable.now rest.0 rest.1 rest.2 c.look_up-seen.ensures)
           c.if-not-load_room.false,
     )
 
@@ -49,7 +48,7 @@ unfolding look
 returns c =
     let a = c.args in
     λ e s kr kw mw pd memory stack log d f ek sixteen so.
-    load_done e s d f a.lent (given_at (goal.at-returns c).Start kr kw) a.run (lent_at (goal.at-returns c).Start mw pd memory stack log) a.to (num a.key.now) _ c.may_load.ensures (not-false _ c.if1.false)
-    _ (c.load_room.ensures a.lent (given_at (goal.at-returns c).Start kr kw) a.changes.now a.readable.now mw pd so.tables c.look_up.ensures)
-    _ _ _ c.look_up.ensures c.load-after.auto.fetched (c.load-after.ensures a.lent (given_at (goal.at-returns c).Start kr kw) a.changes.now a.readable.now mw pd so.tables c.look_up.ensures)
+    load_done e s d f a.lent (given_at (goal.at-returns c).Start kr kw) a.run (lent_at (goal.at-returns c).Start mw pd memory stack log) a.to (num a.key.now) _ c.may_load.ensures c.if-not-may_load.false
+    _ (c.load_room.ensures a.lent (given_at (goal.at-returns c).Start kr kw) a.changes.now a.readable.now mw pd so.tables c.look_up-seen.ensures)
+    _ _ _ c.look_up-seen.ensures c.load-after.auto.fetched (c.load-after.ensures a.lent (given_at (goal.at-returns c).Start kr kw) a.changes.now a.readable.now mw pd so.tables c.look_up-seen.ensures)
     _ c.set.ensures c.if-not-load_room.false ek sixteen so

@@ -6,6 +6,7 @@ use Rattle.keys.specs.StoreLaws.{store_ready}
 use Rattle.keys.specs.Lent.{Given, key_bufs, given}
 use Rattle.machine.specs.Lent.{Bufs, lent_to}
 use Rattle.ops_storage.specs.StoreLaws.{store_denied, store_unpaid, store_full, store_done}
+use borrow.Author.Tests.{not-true, not-false}
 use Rattle.ops_storage.proofs.store.store_key.Goals as goal
 use Rattle.ops_storage.proofs.store.store_key.Goals.{Start}
 
@@ -39,14 +40,14 @@ returns-then-not-plan c =
     store_full e x d f a.lent (given_at (goal.at-returns-then-not-plan c).Start reads kr kw) a.run (lent_at (goal.at-returns-then-not-plan c).Start mr memory stack log) (num a.key.now) a.v
     _ c.may_store.ensures c.if-not-may_store.false
     _ (c.plan_store-plan.ensures reads a.writes.now kr kw mr so.tables) _ c.pay.ensures _ c.in-Done.is
-    _ _ c.stop-then-not-plan.ensures c.if-not-plan.true ek sixteen so
+    _ _ c.stop-then-not-plan.ensures (not-true _ c.if-not-plan.true) ek sixteen so
 
 pub store-after-requires : goal.store-after-requires
 store-after-requires c =
     let a = c.args in
     let rest = c.requires.2 in (
       store_ready a.lent (given_at (goal.at-store-after-requires c).Start [] [] []) a.run.counts (key_bufs a.changes.now a.fetched.now rest.0 a.writable.now a.paid.now) rest.1 (num a.key.now) a.v
-          _ (c.plan_store-plan.ensures [] a.writes.now [] [] rest.0 rest.1) c.if-not-plan.false,
+          _ (c.plan_store-plan.ensures [] a.writes.now [] [] rest.0 rest.1) (not-false _ c.if-not-plan.false),
       c.requires.3,
     )
 
@@ -55,9 +56,9 @@ returns c =
     let a = c.args in
     λ e x reads kr kw mr memory stack log d f ek sixteen so.
     let plan = c.plan_store-plan.ensures reads a.writes.now kr kw mr so.tables in
-    let kept = c.store-after.auto.1.1 in
+    let kept = c.store-after.auto in
     store_done e x d f a.lent (given_at (goal.at-returns c).Start reads kr kw) a.run (lent_at (goal.at-returns c).Start mr memory stack log) (num a.key.now) a.v
     _ c.may_store.ensures c.if-not-may_store.false
     _ plan _ c.pay.ensures _ c.in-Done.is
-    _ _ _ _ kept.0 kept.1.0 kept.1.1.0 (c.store-after.ensures a.lent (given_at (goal.at-returns c).Start reads kr kw) mr a.writable.now so.tables plan)
-    _ c.go_on.ensures c.if-not-plan.false ek sixteen so
+    _ _ _ _ kept.changes kept.fetched kept.paid (c.store-after.ensures a.lent (given_at (goal.at-returns c).Start reads kr kw) mr a.writable.now so.tables plan)
+    _ c.go_on.ensures (not-false _ c.if-not-plan.false) ek sixteen so

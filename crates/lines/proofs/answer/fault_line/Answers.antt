@@ -6,7 +6,7 @@ use Rattle.text.specs.Ascii.{ascii}
 use Rattle.lines.specs.NameLaws.{length_name}
 use Rattle.lines.specs.AnswerLaws.{length_word, fault_laid}
 use Rattle.lines.proofs.answer.fault_line.Goals as goal
-use Rattle.lines.proofs.answer.fault_line.Goals.{After-fault_start-a, After-name-c, After-out-1, After-out-3-1, After-put_bytes-b}
+use Rattle.lines.proofs.answer.fault_line.Goals.{After-fault_start-a, After-name-c, After-put_bytes-b}
 
 -- where each piece may end
 word_ends : (c : After-fault_start-a) → c.fault_start-a.result ≤ 28
@@ -20,7 +20,7 @@ name_ends c = omega (arith, space_ends (goal.at-After-name-c c).After-put_bytes-
 
 pub put_bytes-b-requires : goal.put_bytes-b-requires
 put_bytes-b-requires c =
-    omega (arith, word_ends (goal.at-put_bytes-b-requires c).After-out-1, c.fault_start-a.auto.out, c.requires)
+    omega (arith, word_ends (goal.at-put_bytes-b-requires c).After-fault_start-a, c.fault_start-a.auto.out, c.requires)
 
 pub name-c-requires : goal.name-c-requires
 name-c-requires c =
@@ -28,7 +28,7 @@ name-c-requires c =
 
 pub field-requires : goal.field-requires
 field-requires c =
-    omega (arith, name_ends (goal.at-field-requires c).After-out-3-1, c.fault_start-a.auto.out, c.put_bytes-b.auto.out, c.name-c.auto.out, c.requires)
+    omega (arith, name_ends (goal.at-field-requires c).After-name-c, c.fault_start-a.auto.out, c.put_bytes-b.auto.out, c.name-c.auto.out, c.requires)
 
 pub returns : goal.returns
 unfolding ascii

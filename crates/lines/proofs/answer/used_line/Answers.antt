@@ -3,7 +3,6 @@ use native.Mathlib.Omega.{arith}
 use Rattle.text.specs.LaidLaws.{field_room}
 use Rattle.text.specs.Ascii.{ascii}
 use Rattle.lines.specs.AnswerLaws.{used_laid}
-pub used_line_spec : {M : Type 1} → statement M
 use Rattle.lines.proofs.answer.used_line.Goals as goal
 
 pub field-requires : goal.field-requires

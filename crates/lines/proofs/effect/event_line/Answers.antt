@@ -5,7 +5,7 @@ use Rattle.text.specs.LaidLaws.{field_room}
 use Rattle.text.specs.Ascii.{ascii}
 use Rattle.lines.specs.EffectLaws.{length_selector, event_laid}
 use Rattle.lines.proofs.effect.event_line.Goals as goal
-use Rattle.lines.proofs.effect.event_line.Goals.{After-field-c, After-out-2-1, After-out-3-1, After-selector-b}
+use Rattle.lines.proofs.effect.event_line.Goals.{After-field-c, After-selector-b}
 
 -- where each piece may end
 selector_ends : (c : After-selector-b) → c.selector-b.result ≤ 14
@@ -16,11 +16,11 @@ count_ends c = omega (arith, selector_ends (goal.at-After-field-c c).After-selec
 
 pub field-c-requires : goal.field-c-requires
 field-c-requires c =
-    omega (arith, selector_ends (goal.at-field-c-requires c).After-out-2-1, c.put_bytes-a.auto.out, c.selector-b.auto.out, c.requires)
+    omega (arith, selector_ends (goal.at-field-c-requires c).After-selector-b, c.put_bytes-a.auto.out, c.selector-b.auto.out, c.requires)
 
 pub put_bytes-d-requires : goal.put_bytes-d-requires
 put_bytes-d-requires c =
-    omega (arith, count_ends (goal.at-put_bytes-d-requires c).After-out-3-1, c.put_bytes-a.auto.out, c.selector-b.auto.out, c.field-c.auto.out, c.requires)
+    omega (arith, count_ends (goal.at-put_bytes-d-requires c).After-field-c, c.put_bytes-a.auto.out, c.selector-b.auto.out, c.field-c.auto.out, c.requires)
 
 pub hex-requires : goal.hex-requires
 hex-requires c =

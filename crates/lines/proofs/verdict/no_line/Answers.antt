@@ -5,7 +5,7 @@ use Rattle.text.specs.Ascii.{ascii}
 use Rattle.text.specs.LaidLaws.{field_room}
 use Rattle.lines.specs.VerdictLaws.{no_laid}
 use Rattle.lines.proofs.verdict.no_line.Goals as goal
-use Rattle.lines.proofs.verdict.no_line.Goals.{After-field-a, After-field-b, After-out-1, After-out-2-1}
+use Rattle.lines.proofs.verdict.no_line.Goals.{After-field-a, After-field-b}
 
 -- where each field may end
 number_ends : (c : After-field-a) → c.field-a.result ≤ 23
@@ -15,11 +15,11 @@ argument_ends : (c : After-field-b) → c.field-b.result ≤ 44
 argument_ends c = omega (arith, number_ends (goal.at-After-field-b c).After-field-a, field_room _ _ _ _ _ _ c.field-b.ensures)
 
 pub field-b-requires : goal.field-b-requires
-field-b-requires c = omega (arith, number_ends (goal.at-field-b-requires c).After-out-1, c.field-a.auto.out)
+field-b-requires c = omega (arith, number_ends (goal.at-field-b-requires c).After-field-a, c.field-a.auto.out)
 
 pub put_bytes-requires : goal.put_bytes-requires
 put_bytes-requires c =
-    omega (arith, argument_ends (goal.at-put_bytes-requires c).After-out-2-1, c.field-b.auto.out, c.field-a.auto.out, c.requires)
+    omega (arith, argument_ends (goal.at-put_bytes-requires c).After-field-b, c.field-b.auto.out, c.field-a.auto.out, c.requires)
 
 pub returns : goal.returns
 unfolding ascii

@@ -39,10 +39,8 @@ fn instruction(op: OpCode, s: &[u8]) -> Instr
 }
 
 fn registers<W: Write>(out: &mut W, file: RegFile) -> io::Result<()> {
-    let mut i = 0;
-    while i < 16 {
+    for i in 0..16 {
         print::number(out, file.reg(i))?;
-        i += 1;
     }
     Ok(())
 }

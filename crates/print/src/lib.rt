@@ -1,44 +1,47 @@
 // What the programs share: text, numbers in decimal, bytes in hex or in decimal printed, and parts of what was read.
 #![tactic(auto)]
 
+pub mod input;
 pub mod parts;
 
-use libc::STDOUT_FILENO;
+ghost use Rattle.std.specs.Prelude.{OnOk};
+ghost use Rattle.std.specs.Io.KnownBytes.{Appends};
 
-pub fn text(s: &[u8]) {
-    io::write_all(STDOUT_FILENO, s);
+use std::io;
+use std::io::Write;
+
+pub fn text<W: Write>(out: &mut W, s: &[u8]) -> io::Result<()>
+    ensures { OnOk result (Appends (W.contents out.old) (W.contents out.new) s.now) }
+{
+    out.write_all(s)
 }
 
 // The first n bytes of a text that has them.
-pub fn front(s: &[u8], n: usize) {
+pub fn front<W: Write>(out: &mut W, s: &[u8], n: usize) -> io::Result<()> {
     if n <= s.len() {
-        text(&s[..n]);
+        text(out, &s[..n])?;
     }
+    Ok(())
 }
 
 // A space and a number.
-pub fn number(n: u64) {
-    text(b" ");
-    io::print_decimal(STDOUT_FILENO, n);
+pub fn number<W: Write>(out: &mut W, n: u64) -> io::Result<()> {
+    write!(out, " {n}")
 }
 
 // Two digits of hex, or a space and a number.
-fn byte(b: u8, hex: bool) {
+fn byte<W: Write>(out: &mut W, b: u8, hex: bool) -> io::Result<()> {
     if hex {
-        io::print_hex(STDOUT_FILENO, b as u64, 2);
+        write!(out, "{b:02x}")
     } else {
-        number(b as u64);
+        number(out, b as u64)
     }
 }
 
 // The first n bytes, as far as they stand.
-pub fn bytes(s: &[u8], n: usize, hex: bool) {
-    let mut i = 0;
-    while i < n {
-        if s.len() <= i {
-            return;
-        }
-        byte(s[i], hex);
-        i += 1;
+pub fn bytes<W: Write>(out: &mut W, s: &[u8], n: usize, hex: bool) -> io::Result<()> {
+    for b in parts::first(s, n) {
+        byte(out, *b, hex)?;
     }
+    Ok(())
 }

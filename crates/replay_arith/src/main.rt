@@ -3,8 +3,9 @@
 #![tactic(auto)]
 
 use isa::codec::Decoded;
-use libc::STDIN_FILENO;
 use state::regs::RegFile;
+use std::io;
+use std::io::{BufWriter, Write};
 
 // The operation on registers 0 to 5: r1 and r2 hold the operands; or r3 and r2 the number, r5 and r4 the divisor.
 fn operands(a: u64, b: u64, c: u64, d: u64) -> RegFile {
@@ -17,37 +18,36 @@ fn operands(a: u64, b: u64, c: u64, d: u64) -> RegFile {
 }
 
 // The fault, the target's word, and the upper word of an operation of seven bytes, which has two targets.
-fn outcome(f: RegFile, code: &[u8; 7]) {
+fn outcome<W: Write>(out: &mut W, f: RegFile, code: &[u8; 7]) -> io::Result<()> {
     let Decoded::Done(i, n) = isa::codec::decode(code, 0) else {
-        return;
+        return Ok(());
     };
     let s = f.step(i);
-    print::number(s.fault);
+    print::number(out, s.fault)?;
     if s.fault != 0 {
-        print::text(b" 0 0");
-        return;
+        return print::text(out, b" 0 0");
     }
     let file = s.file;
-    print::number(file.reg(0));
+    print::number(out, file.reg(0))?;
     if n == 7 {
-        print::number(file.reg(1));
+        print::number(out, file.reg(1))
     } else {
-        print::text(b" 0");
+        print::text(out, b" 0")
     }
 }
 
-fn line(op: u8, a: u64, b: u64, c: u64, d: u64) {
-    io::print_decimal(libc::STDOUT_FILENO, op as u64);
-    print::number(a);
-    print::number(b);
-    print::number(c);
-    print::number(d);
-    print::text(b":");
-    outcome(operands(a, b, c, d), &[op, 0, 1, 2, 3, 4, 5]);
-    print::text(b"\n");
+fn line<W: Write>(out: &mut W, op: u8, a: u64, b: u64, c: u64, d: u64) -> io::Result<()> {
+    write!(out, "{op}")?;
+    print::number(out, a)?;
+    print::number(out, b)?;
+    print::number(out, c)?;
+    print::number(out, d)?;
+    print::text(out, b":")?;
+    outcome(out, operands(a, b, c, d), &[op, 0, 1, 2, 3, 4, 5])?;
+    print::text(out, b"\n")
 }
 
-fn lines(input: &[u8]) {
+fn lines<W: Write>(out: &mut W, input: &[u8]) -> io::Result<()> {
     let mut at = 0;
     while 33 <= input.len() - at {
         let op = input[at];
@@ -55,13 +55,16 @@ fn lines(input: &[u8]) {
         let b = words::bytes::read(input, at + 9, 8);
         let c = words::bytes::read(input, at + 17, 8);
         let d = words::bytes::read(input, at + 25, 8);
-        line(op, a, b, c, d);
+        line(out, op, a, b, c, d)?;
         at += 33;
     }
+    Ok(())
 }
 
-fn main() {
+fn main(rt: HostRuntime) -> io::Result<()> {
     let mut buffer = [0u8; 262144];
-    let got = io::read_full(STDIN_FILENO, &mut buffer);
-    lines(&buffer[..got]);
+    let got = print::input::fill(&mut rt.reader(), &mut buffer)?;
+    let mut out = BufWriter::new(rt.alloc(), io::writer(&rt))?;
+    lines(&mut out, &buffer[..got])?;
+    out.flush()
 }

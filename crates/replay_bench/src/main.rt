@@ -6,8 +6,9 @@ ghost use Rattle.std.specs.Prelude.{◌≤◌, length};
 
 use isa::instr::Instr;
 use isa::opcode::{OpByte, OpCode};
-use libc::STDIN_FILENO;
 use state::regs::RegFile;
+use std::io;
+use std::io::{BufWriter, Write};
 
 fn instruction(op: OpCode, s: &[u8]) -> Instr
     requires { 14 ≤ length s.now }
@@ -37,43 +38,45 @@ fn instruction(op: OpCode, s: &[u8]) -> Instr
     }
 }
 
-fn registers(file: RegFile) {
-    let mut i = 0;
-    while i < 16 {
-        print::number(file.reg(i));
-        i += 1;
+fn registers<W: Write>(out: &mut W, file: RegFile) -> io::Result<()> {
+    for i in 0..16 {
+        print::number(out, file.reg(i))?;
     }
+    Ok(())
 }
 
-fn step(file: RegFile, opcode: u8, s: &[u8]) -> RegFile
+fn step<W: Write>(out: &mut W, file: RegFile, opcode: u8, s: &[u8]) -> io::Result<RegFile>
     requires { 14 ≤ length s.now }
 {
     let OpByte::Known(op) = OpCode::from_byte(opcode) else {
-        return file;
+        return Ok(file);
     };
     let i = instruction(op, s);
     let done = state::bench::bench_local(file, i);
-    io::print_decimal(libc::STDOUT_FILENO, opcode as u64);
-    print::bytes(s, 6, false);
-    print::number(words::bytes::read(s, 6, 8));
-    print::text(b":");
-    print::number(done.fault);
-    registers(done.file);
-    print::text(b"\n");
-    done.file
+    write!(out, "{opcode}")?;
+    print::bytes(out, s, 6, false)?;
+    print::number(out, words::bytes::read(s, 6, 8))?;
+    print::text(out, b":")?;
+    print::number(out, done.fault)?;
+    registers(out, done.file)?;
+    print::text(out, b"\n")?;
+    Ok(done.file)
 }
 
-fn lines(input: &[u8]) {
+fn lines<W: Write>(out: &mut W, input: &[u8]) -> io::Result<()> {
     let mut at = 0;
     let mut file = RegFile::new();
     while 15 <= input.len() - at {
-        file = step(file, input[at], &input[at + 1..at + 15]);
+        file = step(out, file, input[at], &input[at + 1..at + 15])?;
         at += 15;
     }
+    Ok(())
 }
 
-fn main() {
+fn main(rt: HostRuntime) -> io::Result<()> {
     let mut buffer = [0u8; 32768];
-    let got = io::read_full(STDIN_FILENO, &mut buffer);
-    lines(&buffer[..got]);
+    let got = print::input::fill(&mut rt.reader(), &mut buffer)?;
+    let mut out = BufWriter::new(rt.alloc(), io::writer(&rt))?;
+    lines(&mut out, &buffer[..got])?;
+    out.flush()
 }

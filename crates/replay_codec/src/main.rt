@@ -5,94 +5,101 @@
 use isa::codec::{DecodeError, Decoded, Encoded};
 use isa::instr::Instr;
 use isa::opcode::OpCode;
-use libc::STDIN_FILENO;
+use std::io;
+use std::io::{BufWriter, Write};
 use words::refusal::Refusal;
 
 // The opcode's byte, the registers, and the number if there is one.
-fn fields(i: Instr) {
+fn fields<W: Write>(out: &mut W, i: Instr) -> io::Result<()> {
     let p = i.parts_of();
     let op = p.0;
     let r = p.1;
     let n = op.registers();
-    print::number(op.byte() as u64);
-    print::bytes(&r, n, false);
+    print::number(out, op.byte() as u64)?;
+    print::bytes(out, &r, n, false)?;
     if 0 < op.wide() {
-        print::number(p.2);
+        print::number(out, p.2)?;
     }
+    Ok(())
 }
 
 // A refusal's number and argument.
-fn numbers(why: Refusal) {
-    print::number(why.number);
-    print::number(why.argument);
+fn numbers<W: Write>(out: &mut W, why: Refusal) -> io::Result<()> {
+    print::number(out, why.number)?;
+    print::number(out, why.argument)
 }
 
-// What encode answers when the output is a byte short of n.
-fn shortened(i: Instr, out: &mut [u8], n: usize) {
+// What encode answers when the buffer is a byte short of n.
+fn shortened<W: Write>(out: &mut W, i: Instr, buffer: &mut [u8], n: usize) -> io::Result<()> {
     if n == 0 {
-        return;
+        return Ok(());
     }
     let k = n - 1;
-    if out.len() < k {
-        return;
+    if buffer.len() < k {
+        return Ok(());
     }
-    if let Encoded::Refused(e) = isa::codec::encode(i, &mut out[..k]) {
-        print::text(b" short");
-        numbers(e.refusal());
+    if let Encoded::Refused(e) = isa::codec::encode(i, &mut buffer[..k]) {
+        print::text(out, b" short")?;
+        numbers(out, e.refusal())?;
     }
+    Ok(())
 }
 
-fn encoded(i: Instr) {
-    let mut out = [0u8; OpCode::MAX_LENGTH];
-    if let Encoded::Done(n) = isa::codec::encode(i, &mut out) {
-        print::bytes(&out, n, true);
-        shortened(i, &mut out, n);
+fn encoded<W: Write>(out: &mut W, i: Instr) -> io::Result<()> {
+    let mut buffer = [0u8; OpCode::MAX_LENGTH];
+    if let Encoded::Done(n) = isa::codec::encode(i, &mut buffer) {
+        print::bytes(out, &buffer, n, true)?;
+        shortened(out, i, &mut buffer, n)?;
     }
+    Ok(())
 }
 
-fn refused(e: DecodeError) {
-    print::text(b"no");
-    numbers(e.refusal());
+fn refused<W: Write>(out: &mut W, e: DecodeError) -> io::Result<()> {
+    print::text(out, b"no")?;
+    numbers(out, e.refusal())
 }
 
-fn line(code: &[u8], place: usize) {
+fn line<W: Write>(out: &mut W, code: &[u8], place: usize) -> io::Result<()> {
     if code.len() == 0 {
-        print::text(b"-");
+        print::text(out, b"-")?;
     }
-    print::bytes(code, code.len(), true);
-    print::text(b" @");
-    print::number(place as u64);
-    print::text(b": ");
+    print::bytes(out, code, code.len(), true)?;
+    print::text(out, b" @")?;
+    print::number(out, place as u64)?;
+    print::text(out, b": ")?;
     match isa::codec::decode(code, place) {
         Decoded::Done(i, n) => {
-            print::text(b"ok");
-            print::number(n as u64);
-            fields(i);
-            print::text(b" = ");
-            encoded(i);
+            print::text(out, b"ok")?;
+            print::number(out, n as u64)?;
+            fields(out, i)?;
+            print::text(out, b" = ")?;
+            encoded(out, i)?;
         }
-        Decoded::Refused(e) => refused(e),
+        Decoded::Refused(e) => refused(out, e)?,
     }
-    print::text(b"\n");
+    print::text(out, b"\n")
 }
 
-fn lines(input: &[u8]) {
+fn lines<W: Write>(out: &mut W, input: &[u8]) -> io::Result<()> {
     let mut at = 0;
     while 9 <= input.len() - at {
         let place = words::bytes::read(input, at, 8) as usize;
         let from = at + 9;
         let n = input[at + 8] as usize;
         if input.len() - from < n {
-            return;
+            break;
         }
         let end = from + n;
-        line(&input[from..end], place);
+        line(out, &input[from..end], place)?;
         at = end;
     }
+    Ok(())
 }
 
-fn main() {
+fn main(rt: HostRuntime) -> io::Result<()> {
     let mut buffer = [0u8; 65536];
-    let got = io::read_full(STDIN_FILENO, &mut buffer);
-    lines(&buffer[..got]);
+    let got = print::input::fill(&mut rt.reader(), &mut buffer)?;
+    let mut out = BufWriter::new(rt.alloc(), io::writer(&rt))?;
+    lines(&mut out, &buffer[..got])?;
+    out.flush()
 }

@@ -1,23 +1,27 @@
 // Authorising a key made from a base.
-ghost use Rattle.std.specs.Prelude.{◌≡◌, length};
+ghost use Rattle.std.specs.Prelude.{◌≡◌, length, IfOk};
 ghost use Rattle.keys.specs.Lent.{KeyBufs, key_bufs};
 ghost use Rattle.keys.specs.Sound.{Good};
 ghost use Rattle.replay_key_steps.specs.Sound.{Among};
 
 use keys::counts::Counts;
+use std::io;
+use std::io::Write;
 
 // The price, the bytes of new entries, and how many keys both lists have then, or the refusal.
-pub(crate) fn authorise(
+pub(crate) fn authorise<W: Write>(
+    out: &mut W,
     c: Counts,
     slots: &[u8],
     readable: &mut [u8],
     writable: &mut [u8],
     step: &[u8],
-) -> Counts
+) -> io::Result<Counts>
     requires { Among c (λ b. key_bufs b.changes b.fetched readable.old writable.old b.paid) ×
         (length slots.now ≡ 384) × (length step.now ≡ 41) }
-    ensures { (b : KeyBufs) → Good c (key_bufs b.changes b.fetched readable.old writable.old b.paid) →
-        Good result (key_bufs b.changes b.fetched readable.new writable.new b.paid) }
+    ensures { IfOk result (λ d. (b : KeyBufs) →
+        Good c (key_bufs b.changes b.fetched readable.old writable.old b.paid) →
+        Good d (key_bufs b.changes b.fetched readable.new writable.new b.paid)) }
 {
     let k = &step[1..33];
     let base = words::bytes::read(step, 33, 8);
@@ -33,15 +37,15 @@ pub(crate) fn authorise(
         k,
     );
     if !plan.keyed {
-        print::text(b"not keyed");
-        return c;
+        print::text(out, b"not keyed")?;
+        return Ok(c);
     }
-    crate::tell::key_plan(plan);
+    crate::tell::key_plan(out, plan)?;
     if !plan.room {
-        print::text(b" no 48");
-        return c;
+        print::text(out, b" no 48")?;
+        return Ok(c);
     }
     let d = keys::authorise::authorise(c, plan, readable, writable, k);
-    crate::tell::authorised(d);
-    d
+    crate::tell::authorised(out, d)?;
+    Ok(d)
 }

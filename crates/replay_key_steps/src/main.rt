@@ -9,24 +9,28 @@ mod steps;
 mod store;
 mod tell;
 
-use libc::STDIN_FILENO;
+use std::io;
+use std::io::{BufWriter, Write};
 
-fn runs(input: &[u8]) {
+fn runs<W: Write>(out: &mut W, input: &[u8]) -> io::Result<()> {
     let mut at = 0;
     while 4 <= input.len() - at {
         let n = words::bytes::read(input, at, 4) as usize;
         let from = at + 4;
         if input.len() - from < n {
-            return;
+            break;
         }
         let end = from + n;
-        crate::run::run(&input[from..end]);
+        crate::run::run(out, &input[from..end])?;
         at = end;
     }
+    Ok(())
 }
 
-fn main() {
+fn main(rt: HostRuntime) -> io::Result<()> {
     let mut buffer = [0u8; 262144];
-    let got = io::read_full(STDIN_FILENO, &mut buffer);
-    runs(&buffer[..got]);
+    let got = print::input::fill(&mut rt.reader(), &mut buffer)?;
+    let mut out = BufWriter::new(rt.alloc(), io::writer(&rt))?;
+    runs(&mut out, &buffer[..got])?;
+    out.flush()
 }

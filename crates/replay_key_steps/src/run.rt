@@ -3,22 +3,31 @@
 ghost use Rattle.std.specs.Prelude.{◌≡◌, ◌+◌, ◌≤◌, length};
 
 use keys::look::TableRows;
+use std::io;
+use std::io::Write;
 use tables::check::Checked;
 
-fn checked(has_loader: bool, slots: &[u8], store: &[u8], loader: &[u8], records: &[u8])
+fn checked<W: Write>(
+    out: &mut W,
+    has_loader: bool,
+    slots: &[u8],
+    store: &[u8],
+    loader: &[u8],
+    records: &[u8],
+) -> io::Result<()>
     requires { length slots.now ≡ 384 }
 {
     match tables::check::check(store, 40) {
-        Checked::Bad => print::text(b"no 45\n"),
+        Checked::Bad => print::text(out, b"no 45\n"),
         Checked::Whole(ns) => match tables::check::check_if(has_loader, loader, 40) {
-            Checked::Bad => print::text(b"no 45\n"),
+            Checked::Bad => print::text(out, b"no 45\n"),
             Checked::Whole(nl) => {
                 let n = TableRows {
                     store: ns,
                     has_loader: has_loader,
                     loader: nl,
                 };
-                crate::steps::steps(n, slots, store, loader, records);
+                crate::steps::steps(out, n, slots, store, loader, records)
             }
         },
     }
@@ -32,20 +41,21 @@ fn rows_end(from: usize, rows: u8) -> usize
     from + rows as usize * 40
 }
 
-pub fn run(part: &[u8]) {
+pub fn run<W: Write>(out: &mut W, part: &[u8]) -> io::Result<()> {
     if part.len() < 387 {
-        return;
+        return Ok(());
     }
     let to_loader = rows_end(387, part[1]);
     let to_records = rows_end(to_loader, part[2]);
     if part.len() < to_records {
-        return;
+        return Ok(());
     }
     checked(
+        out,
         part[0] == 1,
         &part[3..387],
         &part[387..to_loader],
         &part[to_loader..to_records],
         &part[to_records..],
-    );
+    )
 }

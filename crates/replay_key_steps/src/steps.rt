@@ -1,13 +1,16 @@
 // The records of a run: an operation (1 byte), a key (32) and a value (8).
-ghost use Rattle.std.specs.Prelude.{◌≡◌, length};
+ghost use Rattle.std.specs.Prelude.{◌≡◌, length, IfOk};
 ghost use Rattle.keys.specs.Lent.{key_bufs};
 ghost use Rattle.keys.specs.Sound.{Good};
 ghost use Rattle.replay_key_steps.specs.Sound.{Lends};
 
 use keys::counts::Counts;
 use keys::look::TableRows;
+use std::io;
+use std::io::Write;
 
-fn one(
+fn one<W: Write>(
+    out: &mut W,
     step: &[u8],
     n: TableRows,
     slots: &[u8],
@@ -19,26 +22,35 @@ fn one(
     readable: &mut [u8],
     writable: &mut [u8],
     paid: &mut [u8],
-) -> Counts
+) -> io::Result<Counts>
     requires { Lends n store.now loader.now ×
         Good c (key_bufs changes.old fetched.old readable.old writable.old paid.old) × (length slots.now ≡ 384) × (length step.now ≡ 41) }
-    ensures { Good result (key_bufs changes.new fetched.new readable.new writable.new paid.new) }
+    ensures { IfOk result (λ d. Good d (key_bufs changes.new fetched.new readable.new writable.new paid.new)) }
 {
     match step[0] {
-        0 => crate::load::load(n, c, slots, store, loader, changes, fetched, readable, step),
-        1 => crate::store::store(
-            n, c, slots, store, loader, changes, fetched, writable, paid, step,
+        0 => crate::load::load(
+            out, n, c, slots, store, loader, changes, fetched, readable, step,
         ),
-        2 => crate::authorise::authorise(c, slots, readable, writable, step),
+        1 => crate::store::store(
+            out, n, c, slots, store, loader, changes, fetched, writable, paid, step,
+        ),
+        2 => crate::authorise::authorise(out, c, slots, readable, writable, step),
         _ => {
-            crate::tell::tables(c, changes, fetched, readable, writable, paid);
-            c
+            crate::tell::tables(out, c, changes, fetched, readable, writable, paid)?;
+            Ok(c)
         }
     }
 }
 
 // The tables are small and mostly no whole number of rows, so that each runs out of room.
-pub(crate) fn steps(n: TableRows, slots: &[u8], store: &[u8], loader: &[u8], records: &[u8])
+pub(crate) fn steps<W: Write>(
+    out: &mut W,
+    n: TableRows,
+    slots: &[u8],
+    store: &[u8],
+    loader: &[u8],
+    records: &[u8],
+) -> io::Result<()>
     requires { Lends n store.now loader.now × (length slots.now ≡ 384) }
 {
     let mut changes = [0u8; 490];
@@ -58,6 +70,7 @@ pub(crate) fn steps(n: TableRows, slots: &[u8], store: &[u8], loader: &[u8], rec
         let end = at + 41;
         let step = &records[at..end];
         c = one(
+            out,
             step,
             n,
             slots,
@@ -69,8 +82,9 @@ pub(crate) fn steps(n: TableRows, slots: &[u8], store: &[u8], loader: &[u8], rec
             &mut readable,
             &mut writable,
             &mut paid,
-        );
-        print::text(b"\n");
+        )?;
+        print::text(out, b"\n")?;
         at = end;
     }
+    Ok(())
 }

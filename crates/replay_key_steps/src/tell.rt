@@ -3,73 +3,74 @@ use keys::authorise::KeyPlan;
 use keys::counts::Counts;
 use keys::look::Look;
 use keys::store::StorePlan;
+use std::io;
+use std::io::Write;
 
 const PRIME: u64 = 4294967291;
 
-pub fn loaded(seen: Look, c: Counts) {
-    print::text(b"value");
-    print::number(seen.value);
-    print::text(b" rows");
-    print::number(c.fetched as u64);
+pub fn loaded<W: Write>(out: &mut W, seen: Look, c: Counts) -> io::Result<()> {
+    print::text(out, b"value")?;
+    print::number(out, seen.value)?;
+    print::text(out, b" rows")?;
+    print::number(out, c.fetched as u64)
 }
 
-pub fn store_plan(plan: StorePlan) {
+pub fn store_plan<W: Write>(out: &mut W, plan: StorePlan) -> io::Result<()> {
     if plan.fresh {
-        print::text(b"fresh ");
+        print::text(out, b"fresh ")?;
     }
-    print::text(b"price");
-    print::number(plan.price);
+    print::text(out, b"price")?;
+    print::number(out, plan.price)
 }
 
-pub fn stored(c: Counts) {
-    print::text(b" rows");
-    print::number(c.changes as u64);
-    print::number(c.fetched as u64);
-    print::number(c.paid as u64);
+pub fn stored<W: Write>(out: &mut W, c: Counts) -> io::Result<()> {
+    print::text(out, b" rows")?;
+    print::number(out, c.changes as u64)?;
+    print::number(out, c.fetched as u64)?;
+    print::number(out, c.paid as u64)
 }
 
-pub fn key_plan(plan: KeyPlan) {
-    print::text(b"price");
-    print::number(plan.price);
-    print::text(b" bytes");
-    print::number(plan.bytes);
+pub fn key_plan<W: Write>(out: &mut W, plan: KeyPlan) -> io::Result<()> {
+    print::text(out, b"price")?;
+    print::number(out, plan.price)?;
+    print::text(out, b" bytes")?;
+    print::number(out, plan.bytes)
 }
 
-pub fn authorised(c: Counts) {
-    print::text(b" rows");
-    print::number(c.reads as u64);
-    print::number(c.writes as u64);
+pub fn authorised<W: Write>(out: &mut W, c: Counts) -> io::Result<()> {
+    print::text(out, b" rows")?;
+    print::number(out, c.reads as u64)?;
+    print::number(out, c.writes as u64)
 }
 
 // The bytes as digits of a number, modulo a prime: every byte and its place count.
 fn sum(t: &[u8]) -> u64 {
     let mut s: u64 = 0;
-    let mut i = 0;
-    while i < t.len() {
-        s = (s * 257 + t[i] as u64) % PRIME;
-        i += 1;
+    for b in t {
+        s = (s * 257 + *b as u64) % PRIME;
     }
     s
 }
 
-fn table(n: usize, t: &[u8]) {
-    print::number(n as u64);
-    print::number(sum(t));
+fn table<W: Write>(out: &mut W, n: usize, t: &[u8]) -> io::Result<()> {
+    print::number(out, n as u64)?;
+    print::number(out, sum(t))
 }
 
 // Rows and the sum of all bytes of each table.
-pub fn tables(
+pub fn tables<W: Write>(
+    out: &mut W,
     c: Counts,
     changes: &[u8],
     fetched: &[u8],
     readable: &[u8],
     writable: &[u8],
     paid: &[u8],
-) {
-    print::text(b"tables");
-    table(c.changes, changes);
-    table(c.fetched, fetched);
-    table(c.reads, readable);
-    table(c.writes, writable);
-    table(c.paid, paid);
+) -> io::Result<()> {
+    print::text(out, b"tables")?;
+    table(out, c.changes, changes)?;
+    table(out, c.fetched, fetched)?;
+    table(out, c.reads, readable)?;
+    table(out, c.writes, writable)?;
+    table(out, c.paid, paid)
 }

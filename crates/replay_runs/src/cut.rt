@@ -1,5 +1,6 @@
 // A record's numbers and parts.
-use libc::STDIN_FILENO;
+use std::io;
+use std::io::Read;
 
 // The bytes before a record's parts.
 pub const HEAD: usize = 74;
@@ -56,21 +57,21 @@ pub fn ends_of(r: &[u8]) -> Ends {
 }
 
 // Reads a record into the front of the bytes; how many it has, 0 at the input's end.
-pub fn read_record(t: &mut [u8]) -> usize {
+pub fn read_record<R: Read>(from: &mut R, t: &mut [u8]) -> io::Result<usize> {
     if t.len() < HEAD {
-        return 0;
+        return Ok(0);
     }
-    if io::read_full(STDIN_FILENO, &mut t[..HEAD]) < HEAD {
-        return 0;
+    if print::input::fill(from, &mut t[..HEAD])? < HEAD {
+        return Ok(0);
     }
     let e = ends_of(t);
     let end = e.preload;
     if end < HEAD {
-        return 0;
+        return Ok(0);
     }
     if t.len() < end {
-        return 0;
+        return Ok(0);
     }
-    io::read_full(STDIN_FILENO, &mut t[HEAD..end]);
-    end
+    print::input::fill(from, &mut t[HEAD..end])?;
+    Ok(end)
 }

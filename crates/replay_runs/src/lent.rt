@@ -6,24 +6,14 @@ const FILL: u8 = 165;
 const FILL_WORD: u64 = 0xA5A5_A5A5_A5A5_A5A5;
 
 fn fill(t: &mut [u8], end: usize) {
-    let mut i = 0;
-    while i < end {
-        if t.len() <= i {
-            return;
-        }
-        t[i] = FILL;
-        i += 1;
+    for x in t.iter_mut().take(end) {
+        *x = FILL;
     }
 }
 
 fn fill_words(t: &mut [u64], end: usize) {
-    let mut i = 0;
-    while i < end {
-        if t.len() <= i {
-            return;
-        }
-        t[i] = FILL_WORD;
-        i += 1;
+    for x in t.iter_mut().take(end) {
+        *x = FILL_WORD;
     }
 }
 
@@ -50,25 +40,25 @@ pub fn words(t: &mut [u64], n: u64) -> &mut [u64] {
 // The part so many times over, as far as there is room; where it ends.
 pub fn repeat(t: &mut [u8], s: &[u8], times: u64) -> usize {
     let mut at = 0;
-    let mut i = 0;
-    while i < times {
+    for _ in 0..times {
         if t.len() - at < s.len() {
             return at;
         }
         words::bytes::copy_in(t, at, s);
         at += s.len();
-        i += 1;
     }
     at
 }
 
 // An array this long is only named by its length: the prover would count its bytes one by one.
+#[tactic(none)]
 pub fn for_replies() -> [u8; 786480]
     ensures { 786480 ≡ length result }
 {
     [0; 786480]
 }
 
+#[tactic(none)]
 pub fn for_log() -> [u8; 1048576]
     ensures { 1048576 ≡ length result }
 {

@@ -9,6 +9,8 @@ mod shown;
 use machine::host::Host;
 use opening::open::Call;
 use print::parts::{between, first};
+use std::io;
+use std::io::{BufWriter, Read, Write};
 
 // More records than there are, so that the program ends.
 const MOST: u64 = 1000000;
@@ -33,7 +35,8 @@ fn read_head(r: &[u8]) -> Call {
     Call::for_entry(selector, limit, host(), has_loader)
 }
 
-fn line(
+fn line<W: Write>(
+    out: &mut W,
     call: Call,
     container: &[u8],
     store: &[u8],
@@ -49,19 +52,20 @@ fn line(
     writes: &mut [u8],
     fresh: &mut [u8],
     log: &mut [u8],
-) {
+) -> io::Result<()> {
     let answer = interp::call::run(
         call, container, store, loader, replies, preload, memory, stack, starts, changes, fetched,
         reads, writes, fresh, log,
     );
-    shown::answer(answer);
+    shown::answer(out, answer)?;
     shown::buffers(
-        memory, stack, starts, changes, fetched, reads, writes, fresh, log,
-    );
+        out, memory, stack, starts, changes, fetched, reads, writes, fresh, log,
+    )
 }
 
 // Cuts a record into its parts, and from each buffer as much as the head says.
-fn lend(
+fn lend<W: Write>(
+    out: &mut W,
     r: &[u8],
     e: cut::Ends,
     replies: &[u8],
@@ -74,8 +78,9 @@ fn lend(
     writes: &mut [u8],
     fresh: &mut [u8],
     log: &mut [u8],
-) {
+) -> io::Result<()> {
     line(
+        out,
         read_head(r),
         between(r, cut::HEAD, e.container),
         between(r, e.container, e.store),
@@ -91,11 +96,12 @@ fn lend(
         lent::bytes(writes, cut::number(r, 38, 4)),
         lent::bytes(fresh, cut::number(r, 42, 4)),
         lent::bytes(log, cut::number(r, 46, 4)),
-    );
+    )
 }
 
 // A record's replies stand so many times over, which the input leaves out.
-fn record(
+fn record<W: Write>(
+    out: &mut W,
     r: &[u8],
     replies: &mut [u8],
     memory: &mut [u8],
@@ -107,7 +113,7 @@ fn record(
     writes: &mut [u8],
     fresh: &mut [u8],
     log: &mut [u8],
-) {
+) -> io::Result<()> {
     let e = cut::ends_of(r);
     let n = lent::repeat(
         replies,
@@ -115,6 +121,7 @@ fn record(
         cut::number(r, 70, 4),
     );
     lend(
+        out,
         r,
         e,
         first(replies, n),
@@ -127,11 +134,13 @@ fn record(
         writes,
         fresh,
         log,
-    );
+    )
 }
 
 // Whether there was another record.
-fn another(
+fn another<R: Read, W: Write>(
+    from: &mut R,
+    out: &mut W,
     buffer: &mut [u8],
     replies: &mut [u8],
     memory: &mut [u8],
@@ -143,12 +152,13 @@ fn another(
     writes: &mut [u8],
     fresh: &mut [u8],
     log: &mut [u8],
-) -> bool {
-    let n = cut::read_record(buffer);
+) -> io::Result<bool> {
+    let n = cut::read_record(from, buffer)?;
     if n == 0 {
-        return false;
+        return Ok(false);
     }
     record(
+        out,
         first(buffer, n),
         replies,
         memory,
@@ -160,11 +170,13 @@ fn another(
         writes,
         fresh,
         log,
-    );
-    true
+    )?;
+    Ok(true)
 }
 
-fn lines(
+fn lines<R: Read, W: Write>(
+    from: &mut R,
+    out: &mut W,
     buffer: &mut [u8],
     replies: &mut [u8],
     memory: &mut [u8],
@@ -176,19 +188,26 @@ fn lines(
     writes: &mut [u8],
     fresh: &mut [u8],
     log: &mut [u8],
-) {
-    let mut count = 0;
-    while count < MOST {
+) -> io::Result<()> {
+    for _ in 0..MOST {
         if !another(
-            buffer, replies, memory, stack, starts, changes, fetched, reads, writes, fresh, log,
-        ) {
-            return;
+            from, out, buffer, replies, memory, stack, starts, changes, fetched, reads, writes,
+            fresh, log,
+        )? {
+            break;
         }
-        count += 1;
     }
+    Ok(())
 }
 
-fn with_small(replies: &mut [u8], reads: &mut [u8], writes: &mut [u8], log: &mut [u8]) {
+fn with_small<R: Read, W: Write>(
+    from: &mut R,
+    out: &mut W,
+    replies: &mut [u8],
+    reads: &mut [u8],
+    writes: &mut [u8],
+    log: &mut [u8],
+) -> io::Result<()> {
     let mut buffer = [0u8; 131072];
     let mut memory = [0u8; 65537];
     let mut stack = [0u64; 1025];
@@ -197,6 +216,8 @@ fn with_small(replies: &mut [u8], reads: &mut [u8], writes: &mut [u8], log: &mut
     let mut fetched = [0u8; 1024];
     let mut fresh = [0u8; 1024];
     lines(
+        from,
+        out,
         &mut buffer,
         replies,
         &mut memory,
@@ -208,13 +229,22 @@ fn with_small(replies: &mut [u8], reads: &mut [u8], writes: &mut [u8], log: &mut
         writes,
         &mut fresh,
         log,
-    );
+    )
 }
 
-fn main() {
+fn main(rt: HostRuntime) -> io::Result<()> {
     let mut replies = lent::for_replies();
     let mut reads = [0u8; 524288];
     let mut writes = [0u8; 524288];
     let mut log = lent::for_log();
-    with_small(&mut replies, &mut reads, &mut writes, &mut log);
+    let mut out = BufWriter::new(rt.alloc(), io::writer(&rt))?;
+    with_small(
+        &mut rt.reader(),
+        &mut out,
+        &mut replies,
+        &mut reads,
+        &mut writes,
+        &mut log,
+    )?;
+    out.flush()
 }

@@ -2,6 +2,8 @@
 ghost use Rattle.std.specs.Prelude.{◌≤◌};
 
 use interp::answer::Answer;
+use std::io;
+use std::io::Write;
 
 // The numbers are digits to this base, modulo this prime: 0 for zeros alone.
 const BASE: u64 = 1000003;
@@ -14,58 +16,54 @@ fn wide(b: u8) -> u64
     b as u64
 }
 
-fn checksum(t: &[u8]) {
+fn checksum<W: Write>(out: &mut W, t: &[u8]) -> io::Result<()> {
     let mut sum: u64 = 0;
-    let mut i = 0;
-    while i < t.len() {
-        sum = (sum * BASE + wide(t[i])) % PRIME;
-        i += 1;
+    for b in t {
+        sum = (sum * BASE + wide(*b)) % PRIME;
     }
-    print::number(sum);
+    print::number(out, sum)
 }
 
-fn checksum_words(t: &[u64]) {
+fn checksum_words<W: Write>(out: &mut W, t: &[u64]) -> io::Result<()> {
     let mut sum: u64 = 0;
-    let mut i = 0;
-    while i < t.len() {
-        sum = (sum * BASE + t[i] % PRIME) % PRIME;
-        i += 1;
+    for w in t {
+        sum = (sum * BASE + *w % PRIME) % PRIME;
     }
-    print::number(sum);
+    print::number(out, sum)
 }
 
-fn numbers(t: &[u64]) {
-    let mut i = 0;
-    while i < t.len() {
-        print::number(t[i]);
-        i += 1;
+fn numbers<W: Write>(out: &mut W, t: &[u64]) -> io::Result<()> {
+    for n in t {
+        print::number(out, *n)?;
     }
+    Ok(())
 }
 
-fn count(name: &[u8], n: u64) {
-    print::text(name);
-    print::number(n);
+fn count<W: Write>(out: &mut W, name: &[u8], n: u64) -> io::Result<()> {
+    print::text(out, name)?;
+    print::number(out, n)
 }
 
-pub fn answer(a: Answer) {
+pub fn answer<W: Write>(out: &mut W, a: Answer) -> io::Result<()> {
     let end = a.end;
     if end.number == 0 {
-        print::text(b"halted");
+        print::text(out, b"halted")?;
     } else {
-        count(b"no", end.number);
-        print::number(end.argument);
+        count(out, b"no", end.number)?;
+        print::number(out, end.argument)?;
     }
-    count(b" fetches", a.fetches);
-    count(b" used", a.used);
-    count(b" fetched", a.fetched);
-    count(b" changes", a.changes);
-    count(b" log", a.log);
-    print::text(b" regs");
+    count(out, b" fetches", a.fetches)?;
+    count(out, b" used", a.used)?;
+    count(out, b" fetched", a.fetched)?;
+    count(out, b" changes", a.changes)?;
+    count(out, b" log", a.log)?;
+    print::text(out, b" regs")?;
     let file = a.regs;
-    numbers(&file.r);
+    numbers(out, &file.r)
 }
 
-pub fn buffers(
+pub fn buffers<W: Write>(
+    out: &mut W,
     memory: &[u8],
     stack: &[u64],
     starts: &[u8],
@@ -75,16 +73,16 @@ pub fn buffers(
     writes: &[u8],
     fresh: &[u8],
     log: &[u8],
-) {
-    print::text(b" buffers");
-    checksum(memory);
-    checksum_words(stack);
-    checksum(starts);
-    checksum(changes);
-    checksum(fetched);
-    checksum(reads);
-    checksum(writes);
-    checksum(fresh);
-    checksum(log);
-    print::text(b"\n");
+) -> io::Result<()> {
+    print::text(out, b" buffers")?;
+    checksum(out, memory)?;
+    checksum_words(out, stack)?;
+    checksum(out, starts)?;
+    checksum(out, changes)?;
+    checksum(out, fetched)?;
+    checksum(out, reads)?;
+    checksum(out, writes)?;
+    checksum(out, fresh)?;
+    checksum(out, log)?;
+    print::text(out, b"\n")
 }

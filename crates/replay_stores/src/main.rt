@@ -6,7 +6,8 @@ ghost use Rattle.std.specs.Prelude.{◌≡◌, true, ◌≤◌, length};
 ghost use Rattle.tables.specs.Table.{Table};
 
 use effects::log::Grown;
-use libc::STDIN_FILENO;
+use std::io;
+use std::io::{BufWriter, Write};
 use tables::check::Checked;
 use tables::rows::Got;
 use tables::store::Stored;
@@ -38,109 +39,117 @@ fn sorted(t: &[u8], n: usize, w: usize) -> bool
 }
 
 // The count after a row was put in, or the refusal.
-fn stored(s: Stored, n: usize) -> usize {
+fn stored<W: Write>(out: &mut W, s: Stored, n: usize) -> io::Result<usize> {
     match s {
         Stored::Count(m) => {
-            print::text(b"rows");
-            print::number(m as u64);
-            m
+            print::text(out, b"rows")?;
+            print::number(out, m as u64)?;
+            Ok(m)
         }
         Stored::NoRoom => {
-            print::text(b"no 48");
-            n
+            print::text(out, b"no 48")?;
+            Ok(n)
         }
     }
 }
 
-fn put(t: &mut [u8], n: usize, key: &[u8], v: u64) -> usize
+fn put<W: Write>(out: &mut W, t: &mut [u8], n: usize, key: &[u8], v: u64) -> io::Result<usize>
     requires { length key.now ≡ 32 }
 {
     if !sorted(t, n, 40) {
-        return n;
+        return Ok(n);
     }
-    stored(tables::store::put(t, n, key, v), n)
+    stored(out, tables::store::put(t, n, key, v), n)
 }
 
-fn add(t: &mut [u8], n: usize, key: &[u8]) -> usize
+fn add<W: Write>(out: &mut W, t: &mut [u8], n: usize, key: &[u8]) -> io::Result<usize>
     requires { length key.now ≡ 32 }
 {
     if !sorted(t, n, 32) {
-        return n;
+        return Ok(n);
     }
-    stored(tables::store::add(t, n, key), n)
+    stored(out, tables::store::add(t, n, key), n)
 }
 
-fn get(t: &[u8], n: usize, key: &[u8])
+fn get<W: Write>(out: &mut W, t: &[u8], n: usize, key: &[u8]) -> io::Result<()>
     requires { length key.now ≡ 32 }
 {
     if !sorted(t, n, 40) {
-        return;
+        return Ok(());
     }
     match tables::rows::get(t, n, key) {
         Got::Value(v) => {
-            print::text(b"value");
-            print::number(v);
+            print::text(out, b"value")?;
+            print::number(out, v)
         }
-        Got::Nothing => print::text(b"nothing"),
+        Got::Nothing => print::text(out, b"nothing"),
     }
 }
 
-fn has(t: &[u8], n: usize, key: &[u8])
+fn has<W: Write>(out: &mut W, t: &[u8], n: usize, key: &[u8]) -> io::Result<()>
     requires { length key.now ≡ 32 }
 {
     if !sorted(t, n, 32) {
-        return;
+        return Ok(());
     }
     if tables::rows::has(t, n, 32, key) {
-        print::text(b"has");
+        print::text(out, b"has")
     } else {
-        print::text(b"has not");
+        print::text(out, b"has not")
     }
 }
 
 // The log's end after a record was appended, or the refusal.
-fn append(log: &mut [u8], end: usize, kind: u8, word: u64, data: &[u8]) -> usize {
+fn append<W: Write>(
+    out: &mut W,
+    log: &mut [u8],
+    end: usize,
+    kind: u8,
+    word: u64,
+    data: &[u8],
+) -> io::Result<usize> {
     if log.len() < end {
-        return end;
+        return Ok(end);
     }
     if data.len() > 40 {
-        return end;
+        return Ok(end);
     }
     match effects::log::append(log, end, kind, word, data) {
         Grown::End(m) => {
-            print::text(b"end");
-            print::number(m as u64);
-            m
+            print::text(out, b"end")?;
+            print::number(out, m as u64)?;
+            Ok(m)
         }
         Grown::NoRoom => {
-            print::text(b"no 48");
-            end
+            print::text(out, b"no 48")?;
+            Ok(end)
         }
     }
 }
 
-fn known(log: &[u8], end: usize, kind: u8, target: &[u8]) {
+fn known<W: Write>(out: &mut W, log: &[u8], end: usize, kind: u8, target: &[u8]) -> io::Result<()> {
     if log.len() < end {
-        return;
+        return Ok(());
     }
     if effects::targets::known(log, end, kind, target) {
-        print::text(b"known");
+        print::text(out, b"known")
     } else {
-        print::text(b"new");
+        print::text(out, b"new")
     }
 }
 
 // How many records, how many events, and whether there is a durable target.
-fn counts(log: &[u8], end: usize) {
+fn counts<W: Write>(out: &mut W, log: &[u8], end: usize) -> io::Result<()> {
     if log.len() < end {
-        return;
+        return Ok(());
     }
-    print::text(b"log");
-    print::number(effects::counts::records(log, end) as u64);
-    print::number(effects::counts::events(log, end) as u64);
+    print::text(out, b"log")?;
+    print::number(out, effects::counts::records(log, end) as u64)?;
+    print::number(out, effects::counts::events(log, end) as u64)?;
     if effects::targets::any_target(log, end) {
-        print::text(b" target");
+        print::text(out, b" target")?;
     }
+    Ok(())
 }
 
 // The data of an effect or the bytes of a target: as many of a key's first bytes as the value's last byte says, at most 32.
@@ -151,7 +160,8 @@ fn some_of(key: &[u8], v: u64) -> &[u8]
     &key[..n]
 }
 
-fn one(
+fn one<W: Write>(
+    out: &mut W,
     op: u8,
     key: &[u8],
     v: u64,
@@ -160,55 +170,26 @@ fn one(
     set: &mut [u8],
     log: &mut [u8],
     c: Ends,
-) -> Ends
+) -> io::Result<Ends>
     requires { length key.now ≡ 32 }
 {
     let mut d = c;
     match op {
-        0 => {
-            d.map = put(map, c.map, key, v);
-            d
-        }
-        1 => {
-            get(map, c.map, key);
-            d
-        }
-        2 => {
-            d.set = add(set, c.set, key);
-            d
-        }
-        3 => {
-            has(set, c.set, key);
-            d
-        }
-        4 => {
-            d.log = append(log, c.log, 0, v, some_of(key, v));
-            d
-        }
-        5 => {
-            d.log = append(log, c.log, 1, v, some_of(key, v));
-            d
-        }
-        6 => {
-            known(log, c.log, 0, some_of(key, v));
-            d
-        }
-        7 => {
-            d.log = append(log, c.log, 1, MINT, body);
-            d
-        }
-        8 => {
-            known(log, c.log, 1, key);
-            d
-        }
-        _ => {
-            counts(log, c.log);
-            d
-        }
+        0 => d.map = put(out, map, c.map, key, v)?,
+        1 => get(out, map, c.map, key)?,
+        2 => d.set = add(out, set, c.set, key)?,
+        3 => has(out, set, c.set, key)?,
+        4 => d.log = append(out, log, c.log, 0, v, some_of(key, v))?,
+        5 => d.log = append(out, log, c.log, 1, v, some_of(key, v))?,
+        6 => known(out, log, c.log, 0, some_of(key, v))?,
+        7 => d.log = append(out, log, c.log, 1, MINT, body)?,
+        8 => known(out, log, c.log, 1, key)?,
+        _ => counts(out, log, c.log)?,
     }
+    Ok(d)
 }
 
-fn lines(input: &[u8]) {
+fn lines<W: Write>(out: &mut W, input: &[u8]) -> io::Result<()> {
     let mut map = [0u8; 2000];
     let mut set = [0u8; 1600];
     let mut log = [0u8; 4096];
@@ -225,14 +206,19 @@ fn lines(input: &[u8]) {
         let key = &input[from..end];
         let last = at + 41;
         let body = &input[from..last];
-        c = one(input[at], key, v, body, &mut map, &mut set, &mut log, c);
-        print::text(b"\n");
+        c = one(
+            out, input[at], key, v, body, &mut map, &mut set, &mut log, c,
+        )?;
+        print::text(out, b"\n")?;
         at = last;
     }
+    Ok(())
 }
 
-fn main() {
+fn main(rt: HostRuntime) -> io::Result<()> {
     let mut buffer = [0u8; 262144];
-    let got = io::read_full(STDIN_FILENO, &mut buffer);
-    lines(&buffer[..got]);
+    let got = print::input::fill(&mut rt.reader(), &mut buffer)?;
+    let mut out = BufWriter::new(rt.alloc(), io::writer(&rt))?;
+    lines(&mut out, &buffer[..got])?;
+    out.flush()
 }

@@ -3,48 +3,52 @@
 #![tactic(auto)]
 
 use container_verify::verify::Verified;
-use libc::STDIN_FILENO;
+use std::io;
+use std::io::{BufWriter, Write};
 
 const LARGE: usize = 0x8000_0000;
 
-fn line(v: Verified) {
-    let mut out = [0u8; lines::LINE];
-    let n = lines::verdict::line_for(&mut out, v);
-    print::front(&out, n);
+fn line<W: Write>(out: &mut W, v: Verified) -> io::Result<()> {
+    let mut buffer = [0u8; lines::LINE];
+    let n = lines::verdict::line_for(&mut buffer, v);
+    print::front(out, &buffer, n)
 }
 
 // A container with n zero bytes of code.
-fn large(n: usize) {
+fn large<W: Write>(out: &mut W, n: usize) -> io::Result<()> {
     let mut bytes = [0u8; 65600];
     if n > 65584 {
-        return;
+        return Ok(());
     }
     words::bytes::write(&mut bytes, 0, 4, 0x51564D31);
     words::bytes::write(&mut bytes, 4, 4, n as u64);
     let end = n + 16;
-    line(container_verify::verify::verify(&bytes[..end]));
+    line(out, container_verify::verify::verify(&bytes[..end]))
 }
 
-fn lines(input: &[u8]) {
+fn lines<W: Write>(out: &mut W, input: &[u8]) -> io::Result<()> {
     let mut at = 0;
     while 4 <= input.len() - at {
         at += 4;
         let n = words::bytes::read(input, at - 4, 4) as usize;
         if n >= LARGE {
-            large(n - LARGE);
+            large(out, n - LARGE)?;
             continue;
         }
         if input.len() - at < n {
-            return;
+            break;
         }
         let end = at + n;
-        line(container_verify::verify::verify(&input[at..end]));
+        line(out, container_verify::verify::verify(&input[at..end]))?;
         at = end;
     }
+    Ok(())
 }
 
-fn main() {
+fn main(rt: HostRuntime) -> io::Result<()> {
     let mut buffer = [0u8; 655360];
-    let got = io::read_full(STDIN_FILENO, &mut buffer);
-    lines(&buffer[..got]);
+    let got = print::input::fill(&mut rt.reader(), &mut buffer)?;
+    let mut out = BufWriter::new(rt.alloc(), io::writer(&rt))?;
+    lines(&mut out, &buffer[..got])?;
+    out.flush()
 }

@@ -1,5 +1,13 @@
 // The program's arguments: files by their order, options by their names.
+ghost use Rattle.std.specs.Prelude.{◌≤◌, length, IfSome};
+
+use std::env::{Env, FillError};
+use std::io;
+use std::io::Write;
 use text::number::ParsedNumber;
+
+// No path is longer.
+pub const LONGEST: usize = 4096;
 
 // The Rust's genesis selector, and the signed bytes of ML-DSA-65 and of SLH-DSA 128s: key and signature.
 const GENESIS: u64 = 0xD4A3_FCE6;
@@ -36,6 +44,17 @@ const SLH_NEXT: u64 = 3;
 const OUT_NEXT: u64 = 4;
 
 const UNKNOWN: u64 = 5;
+
+// Argument i in the front of the bytes, and how long it is: 0 for one that has no room, none behind the last.
+pub fn argument<V: Env>(env: &V, i: usize, t: &mut [u8]) -> Option<usize>
+    ensures { IfSome result (λ n. n ≤ length t.new) }
+{
+    match env.arg(i, t) {
+        Ok(n) => Some(n),
+        Err(FillError::TooLong) => Some(0),
+        Err(FillError::NotPresent) => None,
+    }
+}
 
 fn nothing() -> Asked {
     Asked {
@@ -92,18 +111,18 @@ fn kind(word: &[u8]) -> u64 {
     UNKNOWN
 }
 
-fn refused(asked: Asked, word: &[u8], why: &[u8]) -> Asked {
-    crate::said::complain(word, why);
+fn refused<E: Write>(err: &mut E, asked: Asked, word: &[u8], why: &[u8]) -> io::Result<Asked> {
+    crate::said::complain(err, word, why)?;
     let mut a = asked;
     a.ok = false;
-    a
+    Ok(a)
 }
 
 // A file, by how many stand before it.
-fn file(asked: Asked, i: usize, word: &[u8]) -> Asked {
+fn file<E: Write>(err: &mut E, asked: Asked, i: usize, word: &[u8]) -> io::Result<Asked> {
     let before = asked.files;
     if before > 3 {
-        return refused(asked, word, b"one file too many");
+        return refused(err, asked, word, b"one file too many");
     }
     let mut a = asked;
     a.files = before + 1;
@@ -113,23 +132,23 @@ fn file(asked: Asked, i: usize, word: &[u8]) -> Asked {
         2 => a.call = i,
         _ => a.loader = i,
     }
-    a
+    Ok(a)
 }
 
-fn option(asked: Asked, kind: u64, word: &[u8]) -> Asked {
+fn option<E: Write>(err: &mut E, asked: Asked, kind: u64, word: &[u8]) -> io::Result<Asked> {
     if kind == UNKNOWN {
-        return refused(asked, word, b"no such option");
+        return refused(err, asked, word, b"no such option");
     }
     let mut a = asked;
     a.waiting = kind;
-    a
+    Ok(a)
 }
 
 // The number that an option waits for.
-fn number(asked: Asked, word: &[u8]) -> Asked {
+fn number<E: Write>(err: &mut E, asked: Asked, word: &[u8]) -> io::Result<Asked> {
     let p = text::number::parse(word);
     let ParsedNumber::Number(n) = p else {
-        return refused(asked, word, b"no decimal number below 2^64");
+        return refused(err, asked, word, b"no decimal number below 2^64");
     };
     let mut a = asked;
     let waiting = a.waiting;
@@ -139,66 +158,65 @@ fn number(asked: Asked, word: &[u8]) -> Asked {
         _ => a.slh_signed = n,
     }
     a.waiting = FILE;
-    a
+    Ok(a)
 }
 
-fn value(asked: Asked, i: usize, word: &[u8]) -> Asked {
+fn value<E: Write>(err: &mut E, asked: Asked, i: usize, word: &[u8]) -> io::Result<Asked> {
     if asked.waiting == OUT_NEXT {
         let mut a = asked;
         a.out = i;
         a.waiting = FILE;
-        return a;
+        return Ok(a);
     }
-    number(asked, word)
+    number(err, asked, word)
 }
 
 // What argument i adds.
-fn with(asked: Asked, i: usize) -> Asked {
-    let mut buffer = io::buffer();
-    let n = os::arg(i, &mut buffer);
-    let word = &buffer[..n];
+fn with<E: Write>(err: &mut E, asked: Asked, i: usize, word: &[u8]) -> io::Result<Asked> {
     if asked.waiting != FILE {
-        return value(asked, i, word);
+        return value(err, asked, i, word);
     }
     let k = kind(word);
     if k == FILE {
-        return file(asked, i, word);
+        return file(err, asked, i, word);
     }
-    option(asked, k, word)
+    option(err, asked, k, word)
 }
 
-fn all() -> Asked {
-    let count = os::arg_count();
+fn all<V: Env, E: Write>(env: &V, err: &mut E) -> io::Result<Asked> {
     let mut a = nothing();
-    let mut i = 1;
-    while i < count {
-        a = with(a, i);
+    for i in 1..usize::MAX {
+        let mut buffer = [0u8; LONGEST];
+        let Some(n) = argument(env, i, &mut buffer) else {
+            break;
+        };
+        a = with(err, a, i, &buffer[..n])?;
         if !a.ok {
-            return a;
+            break;
         }
-        i += 1;
     }
-    a
+    Ok(a)
 }
 
 // The arguments, if they are whole.
-pub fn read() -> Asked {
-    let a = all();
+pub fn read<V: Env, E: Write>(env: &V, err: &mut E) -> io::Result<Asked> {
+    let a = all(env, err)?;
     if !a.ok {
-        return a;
+        return Ok(a);
     }
     if a.files < 3 {
         return refused(
+            err,
             a,
             b"usage",
             b"CONTAINER STORE CALL [LOADER] [--out FILE] [--genesis N] [--ml N] [--slh N]",
         );
     }
     if a.waiting != FILE {
-        return refused(a, b"usage", b"the last option lacks its value");
+        return refused(err, a, b"usage", b"the last option lacks its value");
     }
     if a.genesis > 4294967295 {
-        return refused(a, b"--genesis", b"a selector is below 2^32");
+        return refused(err, a, b"--genesis", b"a selector is below 2^32");
     }
-    a
+    Ok(a)
 }

@@ -14,6 +14,9 @@ use interp::answer::Answer;
 use machine::host::Host;
 use opening::open::Call;
 use print::parts::{between, first};
+use std::io;
+use std::io::{LineWriter, Write};
+use std::rt::{Env, Files};
 
 fn host(a: Asked) -> Host {
     Host {
@@ -24,38 +27,60 @@ fn host(a: Asked) -> Host {
 }
 
 // Writes the new store to the file that is asked for.
-fn save(a: Asked, store: &[u8], changes: &[u8], count: usize) {
+fn save<R: Files + Env + AllocGlobal, W: Write, E: Write>(
+    rt: &R,
+    out: &mut W,
+    err: &mut E,
+    a: Asked,
+    store: &[u8],
+    changes: &[u8],
+    count: usize,
+) -> io::Result<()> {
     let mut new = [0u8; 327680];
     let m = changes::merge::merge(changes, count, store, &mut new);
     let ChangeList::Rows(n) = m else {
-        said::complain(b"new store", b"not written");
-        return;
+        return said::complain(err, b"new store", b"not written");
     };
     // So many have room.
     if n > 8192 {
-        return;
+        return Ok(());
     }
-    if files::save(a.out, first(&new, n * 40)) {
-        said::count(b"new store rows", n as u64);
+    if files::save(rt, err, a.out, first(&new, n * 40))? {
+        said::count(out, b"new store rows", n as u64)?;
     }
+    Ok(())
 }
 
 // What a call left: lines, and the new store if it halted and one is asked for.
-fn tell(a: Asked, limit: u64, answer: Answer, store: &[u8], changes: &[u8], log: &[u8]) {
-    report::answer(answer, limit);
+fn tell<R: Files + Env + AllocGlobal, W: Write, E: Write>(
+    rt: &R,
+    out: &mut W,
+    err: &mut E,
+    a: Asked,
+    limit: u64,
+    answer: Answer,
+    store: &[u8],
+    changes: &[u8],
+    log: &[u8],
+) -> io::Result<()> {
+    report::answer(out, answer, limit)?;
     let end = answer.end;
     if end.number != 0 {
-        return;
+        return Ok(());
     }
-    report::changes(changes, answer.changes as usize);
-    report::effects(log, answer.log as usize);
+    report::changes(out, changes, answer.changes as usize)?;
+    report::effects(out, log, answer.log as usize)?;
     if a.out != 0 {
-        save(a, store, changes, answer.changes as usize);
+        save(rt, out, err, a, store, changes, answer.changes as usize)?;
     }
+    Ok(())
 }
 
 // With the buffers that a call is lent.
-fn run(
+fn run<R: Files + Env + AllocGlobal, W: Write, E: Write>(
+    rt: &R,
+    out: &mut W,
+    err: &mut E,
     a: Asked,
     h: Head,
     container: &[u8],
@@ -63,7 +88,7 @@ fn run(
     loader: &[u8],
     call: &[u8],
     log: &mut [u8],
-) {
+) -> io::Result<()> {
     let mut memory = [0u8; 65536];
     let mut stack = [0u64; 1024];
     let mut starts = [0u8; 8192];
@@ -90,53 +115,84 @@ fn run(
         &mut fresh,
         log,
     );
-    tell(a, h.limit, answer, store, &changes, log);
+    tell(rt, out, err, a, h.limit, answer, store, &changes, log)
 }
 
 // A log of this size takes all that a run may post.
-fn with_log(a: Asked, h: Head, container: &[u8], store: &[u8], loader: &[u8], call: &[u8]) {
+fn with_log<R: Files + Env + AllocGlobal, W: Write, E: Write>(
+    rt: &R,
+    out: &mut W,
+    err: &mut E,
+    a: Asked,
+    h: Head,
+    container: &[u8],
+    store: &[u8],
+    loader: &[u8],
+    call: &[u8],
+) -> io::Result<()> {
     let mut log = [0u8; 1048576];
-    run(a, h, container, store, loader, call, &mut log);
+    run(rt, out, err, a, h, container, store, loader, call, &mut log)
 }
 
-fn settle(a: Asked, container: &[u8], store: &[u8], call: &[u8], loader: &[u8]) {
+fn settle<R: Files + Env + AllocGlobal, W: Write, E: Write>(
+    rt: &R,
+    out: &mut W,
+    err: &mut E,
+    a: Asked,
+    container: &[u8],
+    store: &[u8],
+    call: &[u8],
+    loader: &[u8],
+) -> io::Result<()> {
     let p = calls::cut(call);
     match p {
-        Parted::Short => said::complain(b"CALL", b"ends before its counts say"),
-        Parted::Long => said::complain(b"CALL", b"has bytes after the preload"),
-        Parted::Call(h) => with_log(a, h, container, store, loader, call),
+        Parted::Short => said::complain(err, b"CALL", b"ends before its counts say"),
+        Parted::Long => said::complain(err, b"CALL", b"has bytes after the preload"),
+        Parted::Call(h) => with_log(rt, out, err, a, h, container, store, loader, call),
     }
 }
 
-fn with_files(a: Asked) {
+fn with_files<R: Files + Env + AllocGlobal, W: Write, E: Write>(
+    rt: &R,
+    out: &mut W,
+    err: &mut E,
+    a: Asked,
+) -> io::Result<()> {
     let mut container = [0u8; 262144];
     let mut store = [0u8; 163840];
     let mut call = [0u8; 114708];
     let mut loader = [0u8; 163840];
-    let Loaded::Bytes(c) = files::load(a.container, &mut container) else {
-        return;
+    let Loaded::Bytes(c) = files::load(rt, err, a.container, &mut container)? else {
+        return Ok(());
     };
-    let Loaded::Bytes(s) = files::load(a.store, &mut store) else {
-        return;
+    let Loaded::Bytes(s) = files::load(rt, err, a.store, &mut store)? else {
+        return Ok(());
     };
-    let Loaded::Bytes(k) = files::load(a.call, &mut call) else {
-        return;
+    let Loaded::Bytes(k) = files::load(rt, err, a.call, &mut call)? else {
+        return Ok(());
     };
-    let Loaded::Bytes(l) = files::load_any(a.loader, &mut loader) else {
-        return;
+    let Loaded::Bytes(l) = files::load_any(rt, err, a.loader, &mut loader)? else {
+        return Ok(());
     };
     settle(
+        rt,
+        out,
+        err,
         a,
         first(&container, c),
         first(&store, s),
         first(&call, k),
         first(&loader, l),
-    );
+    )
 }
 
-fn main() {
-    let a = args::read();
+fn main(rt: HostRuntime) -> io::Result<()> {
+    let mut err = rt.stderr();
+    // A whole line is written at once, so a complaint comes behind the lines before it.
+    let mut out = LineWriter::new(rt.alloc(), io::writer(&rt))?;
+    let a = args::read(&rt, &mut err)?;
     if a.ok {
-        with_files(a);
+        with_files(&rt, &mut out, &mut err, a)?;
     }
+    out.flush()
 }

@@ -1,55 +1,55 @@
 // What a call left, line by line.
 use interp::answer::Answer;
 use lines::LINE;
+use std::io;
+use std::io::Write;
 
 // The longest effect's line: a region of the whole memory.
 const EFFECT_LINE: usize = 131152;
 
-pub fn answer(a: Answer, limit: u64) {
-    let mut out = [0u8; LINE];
+pub fn answer<W: Write>(out: &mut W, a: Answer, limit: u64) -> io::Result<()> {
+    let mut line = [0u8; LINE];
     let end = a.end;
-    let n = lines::answer::end_line(&mut out, end.number, end.argument, a.fetches);
-    crate::said::line(&out, n);
+    let n = lines::answer::end_line(&mut line, end.number, end.argument, a.fetches);
+    crate::said::line(out, &line, n)?;
     if end.number == 0 {
-        let m = lines::answer::used_line(&mut out, a.used, limit);
-        crate::said::line(&out, m);
+        let m = lines::answer::used_line(&mut line, a.used, limit);
+        crate::said::line(out, &line, m)?;
     }
-    crate::said::count(b"fetches", a.fetches);
+    crate::said::count(out, b"fetches", a.fetches)
 }
 
 // The first n rows.
-pub fn changes(t: &[u8], n: usize) {
-    crate::said::count(b"changes", n as u64);
-    let mut out = [0u8; LINE];
-    let mut i = 0;
-    while i < n {
+pub fn changes<W: Write>(out: &mut W, t: &[u8], n: usize) -> io::Result<()> {
+    crate::said::count(out, b"changes", n as u64)?;
+    let mut line = [0u8; LINE];
+    for i in 0..n {
         if t.len() / 40 <= i {
-            return;
+            break;
         }
         let at = i * 40;
         let end = at + 40;
-        let k = lines::answer::change_line(&mut out, &t[at..end]);
-        crate::said::line(&out, k);
-        i += 1;
+        let k = lines::answer::change_line(&mut line, &t[at..end]);
+        crate::said::line(out, &line, k)?;
     }
+    Ok(())
 }
 
 // The effects of a log's first bytes, in the order of their posting: each is found by a walk from the log's end.
-pub fn effects(log: &[u8], end: usize) {
+pub fn effects<W: Write>(out: &mut W, log: &[u8], end: usize) -> io::Result<()> {
     if log.len() < end {
-        return;
+        return Ok(());
     }
     let n = effects::counts::records(log, end);
-    crate::said::count(b"effects", n as u64);
-    let mut out = [0u8; EFFECT_LINE];
-    let mut newer = n;
-    while 0 < newer {
-        newer -= 1;
+    crate::said::count(out, b"effects", n as u64)?;
+    let mut line = [0u8; EFFECT_LINE];
+    for newer in (0..n).rev() {
         let at = lines::effect::end_before_newest(log, end, newer);
         if at == 0 {
-            return;
+            break;
         }
-        let k = lines::effect::effect_line(&mut out, log, at);
-        crate::said::line(&out, k);
+        let k = lines::effect::effect_line(&mut line, log, at);
+        crate::said::line(out, &line, k)?;
     }
+    Ok(())
 }

@@ -1,30 +1,41 @@
 // Lines on standard output, and complaints on standard error.
-use libc::STDERR_FILENO;
+use std::alloc::Global;
+use std::io;
+use std::io::Write;
 
 // A complaint is one line, and the only thing that is written to standard error.
-pub fn complain(what: &[u8], why: &[u8]) {
-    io::write_all(STDERR_FILENO, b"settle: ");
-    io::write_all(STDERR_FILENO, what);
-    io::write_all(STDERR_FILENO, b": ");
-    io::write_all(STDERR_FILENO, why);
-    io::write_all(STDERR_FILENO, b"\n");
+pub fn complain<E: Write>(err: &mut E, what: &[u8], why: &[u8]) -> io::Result<()> {
+    err.write_all(b"settle: ")?;
+    err.write_all(what)?;
+    err.write_all(b": ")?;
+    err.write_all(why)?;
+    err.write_all(b"\n")
 }
 
-// The same for what the system refused, with its own word for why.
-pub fn failed(what: &[u8]) {
-    io::write_all(STDERR_FILENO, b"settle: ");
-    os::fail(what);
+// The same for what the system refused, with its own word for why, which stands before its number.
+pub fn failed<E: Write>(
+    alloc: Global,
+    err: &mut E,
+    what: &[u8],
+    refusal: &io::Error,
+) -> io::Result<()> {
+    let text = refusal.to_string(alloc)?;
+    let why = match text.split_once(" (os error ") {
+        Some((word, _)) => word,
+        None => text.as_str(),
+    };
+    complain(err, what, why.as_bytes())
 }
 
 // The first n bytes and the line's end.
-pub fn line(s: &[u8], n: usize) {
-    print::front(s, n);
-    print::text(b"\n");
+pub fn line<W: Write>(out: &mut W, s: &[u8], n: usize) -> io::Result<()> {
+    print::front(out, s, n)?;
+    print::text(out, b"\n")
 }
 
 // A name and a number.
-pub fn count(name: &[u8], n: u64) {
-    print::text(name);
-    print::number(n);
-    print::text(b"\n");
+pub fn count<W: Write>(out: &mut W, name: &[u8], n: u64) -> io::Result<()> {
+    print::text(out, name)?;
+    print::number(out, n)?;
+    print::text(out, b"\n")
 }

@@ -1,13 +1,13 @@
 // Reads one container from standard input and prints what verify says of it.
 #![tactic(auto)]
 
-use libc::STDIN_FILENO;
+use std::io;
 
-fn main() {
+fn main(rt: HostRuntime) -> io::Result<()> {
     // One byte more than a container may have, so that a longer one shows.
     let mut input = [0u8; 49153];
-    let got = io::read_full(STDIN_FILENO, &mut input);
-    let mut out = [0u8; lines::LINE];
-    let n = lines::verdict::line(&input[..got], &mut out);
-    print::front(&out, n);
+    let got = print::input::fill(&mut rt.reader(), &mut input)?;
+    let mut line = [0u8; lines::LINE];
+    let n = lines::verdict::line(&input[..got], &mut line);
+    print::front(&mut io::writer(&rt), &line, n)
 }

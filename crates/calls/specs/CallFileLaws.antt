@@ -4,7 +4,7 @@ use native.Mathlib.Omega.{arith}
 use Rattle.std.proofs.Common.{length-drop, get_or-drop}
 use borrow.Author.Tests.{le-leb, lt-leb}
 use Rattle.words.specs.Bytes.{Bytes, num}
-use Rattle.words.specs.BytesTheorems.{num_below}
+use Rattle.words.proofs.BytesTheorems.{num_below}
 use Rattle.calls.specs.CallFile.{preload_at, end_at, head_of, parted_of}
 use Rattle.calls.specs.declared.Parted.TheVariants.{Call, Short, Long}
 

@@ -7,7 +7,7 @@ use Rattle.std.proofs.Math.ListN.{take, take-append-drop}
 use Rattle.std.proofs.Math.Seq.{paste}
 use Rattle.std.proofs.lemmas.List.Edits.{take-paste, drop-paste, length-paste}
 use Rattle.words.specs.Bytes.{Bytes}
-use Rattle.words.specs.BytesTheorems.{write_back}
+use Rattle.words.proofs.BytesTheorems.{write_back}
 use Rattle.tables.specs.Rows.{Row, row_in, rows, bytes_of}
 use Rattle.changes.specs.ChangeList.{changed}
 use Rattle.changes.specs.Changed.{sameb, written}

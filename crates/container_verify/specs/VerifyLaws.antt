@@ -11,7 +11,7 @@ use Rattle.container.specs.ReadToldLaws.{ReadTold}
 use Rattle.starts.specs.Walk.{Walk, walk_of}
 use Rattle.container_verify.specs.Targets.{bad_target, stands_of}
 use Rattle.starts.specs.Marks.{Marks, Holds}
-use Rattle.starts.specs.WalkLaws.{starts_within, holds_marked}
+use Rattle.starts.proofs.WalkLaws.{starts_within, holds_marked}
 use Rattle.container_verify.specs.Verify.{first_refusal, entries_refusal, target_refusal, code_refusal, verify_of, verified_by, verified_of}
 use Rattle.container_verify.specs.Checks.{as_check}
 use Rattle.container.specs.LaidOut.{LaidOut}

@@ -3,7 +3,7 @@ use Rattle.std.specs.Prelude.{◌≡◌, refl, Bool, true, false, List, [], ◌�
 use Rattle.std.proofs.Common.{sym, ap, ◌∙◌, inl, inr, arith, le-leb, leb-true, leb-false, eq-eqb, ne_eqb, eqb-true}
 use Rattle.std.proofs.lemmas.Bool.{lt-leb, eqb-false}
 use Rattle.words.specs.Bytes.{num, be_bytes, Bytes}
-use Rattle.words.specs.BytesTheorems.{read_back_all, write_back}
+use Rattle.words.proofs.BytesTheorems.{read_back_all, write_back}
 use Rattle.container.specs.Container.{Container, tag}
 use Rattle.container.specs.Canonical.{canonical, Writable}
 use Rattle.container.specs.Reader.{Parsed, short, read, container, refused, whole, read_of}

@@ -3,7 +3,7 @@ use Rattle.std.specs.Prelude.{◌≡◌, refl, true, List, [], ◌∷◌, ◌++�
 use Rattle.std.proofs.Common.{sym, ap, ◌∙◌, append_assoc, append-nil, arith, length-append, take_at, drop_at, le-leb, eq-eqb}
 use Rattle.words.specs.Bytes.{num, be_bytes, words_of}
 use Rattle.words.specs.BytesLaws.{length_be_bytes}
-use Rattle.words.specs.BytesTheorems.{read_back_all}
+use Rattle.words.proofs.BytesTheorems.{read_back_all}
 use Rattle.container.specs.Container.{Entry, Container, tag}
 use Rattle.container.specs.Canonical.{word_bytes, counted_bytes, entry_bytes, entries_bytes, canonical, Words, CountedWords, WritableEntry, WritableEntries, Writable}
 use Rattle.container.specs.Reader.{read, part, number, counted, entry, entries, container, whole, done, read_of}

@@ -4,7 +4,7 @@ use Rattle.std.proofs.Common.{sym, ap, ◌∙◌, append_assoc, append-nil, arit
 use Rattle.std.proofs.Math.ListN.{get_or-append, get_or-eq_default}
 use Rattle.words.specs.Choice.{pick}
 use Rattle.words.specs.Bytes.{num, be_bytes, Bytes, words_of}
-use Rattle.words.specs.BytesTheorems.{write_back, num_below}
+use Rattle.words.proofs.BytesTheorems.{write_back, num_below}
 use Rattle.container.specs.Container.{Entry, Container, tag}
 use Rattle.container.specs.Canonical.{word_bytes, counted_bytes, entry_bytes, entries_bytes, canonical, Words, CountedWords, WritableEntry, WritableEntries, Writable}
 use Rattle.container.specs.Reader.{short, read, part, number, counted, entry, entries, container, done, read_of}

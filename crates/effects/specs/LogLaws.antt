@@ -4,7 +4,7 @@ use Rattle.std.proofs.Common.{sym, ap, ◌∙◌, append_assoc, arith, length-ap
 use Rattle.std.proofs.lemmas.List.{get_or_at}
 use Rattle.words.specs.Bytes.{num, be_bytes}
 use Rattle.words.specs.BytesLaws.{length_be_bytes}
-use Rattle.words.specs.BytesTheorems.{read_back_all}
+use Rattle.words.proofs.BytesTheorems.{read_back_all}
 use Rattle.effects.specs.Log.{Effect, record_of, log_of, FitTrailers}
 
 pub length_record : (e : Effect) → length (record_of e) ≡ length e.bytes + 13

@@ -16,8 +16,8 @@ use Rattle.container.specs.Entries.{slots, slot_bytes}
 use Rattle.container.specs.Reader.{read_of}
 use Rattle.container.specs.declared.entries.Slots.{Slots}
 use Rattle.starts.specs.Starts.{starts_of}
-use Rattle.starts.specs.StartsLaws.{starts_end}
-use Rattle.starts.specs.WalkLaws.{holds_marked}
+use Rattle.starts.proofs.StartsLaws.{starts_end}
+use Rattle.starts.proofs.WalkLaws.{holds_marked}
 use Rattle.keys.specs.Lent.{loader_of, rooms_of}
 use Rattle.keys.specs.RoomLaws.{drop_zeroes}
 use Rattle.keys.specs.OpeningLaws.{Zero, opening_good, opening_keys}

@@ -20,7 +20,7 @@ use Rattle.machine.specs.Rules.{play}
 use Rattle.machine.specs.Turns.{rule_of, step_of, fetch_of, turn_of}
 use Rattle.machine.specs.Sound.{machine_of}
 use Rattle.machine.specs.Does.{paid_by}
-use Rattle.machine.specs.TurnLaws.{pays_on, pays_not}
+use Rattle.machine.proofs.TurnLaws.{pays_on, pays_not}
 use Rattle.machine.specs.RunParts.{with_place, with_used, with_fetches}
 use Rattle.machine.specs.SoundLaws.{place_sound, fetches_sound}
 use Rattle.machine.specs.declared.run.Run.{Run}

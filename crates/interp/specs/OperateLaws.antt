@@ -14,7 +14,7 @@ use Rattle.machine.specs.Rules.{play}
 use Rattle.machine.specs.Sound.{machine_of}
 use Rattle.machine.specs.Turns.{operated}
 use Rattle.machine.specs.Does.{sets, stops, Played}
-use Rattle.machine.specs.TurnLaws.{none_put, pass_on, sets_next}
+use Rattle.machine.proofs.TurnLaws.{none_put, pass_on, sets_next}
 use Rattle.machine.specs.declared.run.Run.{Run}
 use Rattle.interp.specs.Operated.{Operates}
 

@@ -20,7 +20,7 @@ use Rattle.keys.specs.Lent.{rooms_of}
 use Rattle.machine.specs.Machine.{Env, Machine}
 use Rattle.machine.specs.Steps.{Step, next, halt, fault}
 use Rattle.machine.specs.Turns.{rule_of, step_of, turn_of, end_of, run_of}
-use Rattle.machine.specs.RuleLaws.{Keeps, keeps}
+use Rattle.machine.proofs.RuleLaws.{Keeps, keeps}
 use Rattle.machine.specs.CostLaws.{step_costs}
 use Rattle.machine.specs.Lent.{Bufs}
 use Rattle.machine.specs.Sound.{machine_of, Sound}

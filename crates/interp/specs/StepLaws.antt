@@ -16,7 +16,7 @@ use Rattle.machine.specs.Turns.{act_of, rule_of}
 use Rattle.machine.specs.Lent.{Bufs, bufs, lent_to}
 use Rattle.machine.specs.Sound.{machine_of}
 use Rattle.machine.specs.Does.{goes, halts, Does}
-use Rattle.machine.specs.TurnLaws.{none_put, goes_next}
+use Rattle.machine.proofs.TurnLaws.{none_put, goes_next}
 use Rattle.machine.specs.declared.action.Action.{Action}
 use Rattle.machine.specs.declared.action.Action.TheVariants as action
 use Rattle.machine.specs.declared.action.Move.{Move}

@@ -10,7 +10,7 @@ use Rattle.std.proofs.Math.Seq.{drop-cons, get_or-take}
 use Rattle.std.proofs.lemmas.Bool.{lt-leb}
 use Rattle.words.specs.Choice.{pick}
 use Rattle.words.specs.Bytes.{num, Bytes}
-use Rattle.words.specs.BytesTheorems.{num_below}
+use Rattle.words.proofs.BytesTheorems.{num_below}
 use Rattle.isa.specs.declared.opcode.OpCode.{OpCode}
 use Rattle.isa.specs.declared.opcode.OpByte.TheVariants.{Known, Unknown}
 use Rattle.isa.specs.declared.opcode.OpRow.{OpRow}

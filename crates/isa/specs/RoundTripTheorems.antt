@@ -9,7 +9,7 @@ use Rattle.std.proofs.Math.Seq.{take-add, length-take-le}
 use Rattle.words.specs.Choice.{pick}
 use Rattle.words.specs.Bytes.{num, be_bytes, Bytes}
 use Rattle.words.specs.BytesLaws.{length_be_bytes}
-use Rattle.words.specs.BytesTheorems.{bytes_drop, read_back_all, write_back, num_below}
+use Rattle.words.proofs.BytesTheorems.{bytes_drop, read_back_all, write_back, num_below}
 use Rattle.isa.specs.declared.opcode.OpCode.{OpCode}
 use Rattle.isa.specs.declared.opcode.OpByte.{OpByte}
 use Rattle.isa.specs.declared.opcode.OpByte.TheVariants.{Known, Unknown}

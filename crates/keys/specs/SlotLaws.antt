@@ -9,7 +9,7 @@ use Rattle.std.proofs.Math.Seq.{drop-drop, take_all}
 use borrow.Author.Tests.{eq-eqb, ne_eqb}
 use Rattle.words.specs.Choice.{either}
 use Rattle.words.specs.Bytes.{num, num_from, Bytes, words_of, words_in}
-use Rattle.words.specs.BytesTheorems.{num_from_append, num_below}
+use Rattle.words.proofs.BytesTheorems.{num_from_append, num_below}
 use Rattle.words.specs.Lists.{member}
 use Rattle.tables.specs.Order.{order_of}
 use Rattle.tables.specs.OrderLaws.{order_equal, equal_is}

@@ -17,11 +17,8 @@ pub mod Sound
 pub mod RunParts
 pub mod Does
 -- laws
-pub mod RuleLaws
 pub mod SoundLaws
 pub mod StackLaws
 pub mod ToldLaws
-pub mod TurnLaws
 pub mod KeysLaws
 pub mod CostLaws
-pub mod TraceLaws

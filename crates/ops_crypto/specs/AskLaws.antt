@@ -20,7 +20,7 @@ use Rattle.machine.specs.Sound.{machine_of, Sound}
 use Rattle.machine.specs.Does.{sets, stops, puts, Played, Does}
 use Rattle.machine.specs.RunParts.{with_replies}
 use Rattle.machine.specs.SoundLaws.{memory_sound, replies_sound}
-use Rattle.machine.specs.TurnLaws.{pass_on, pass_stops, sets_next}
+use Rattle.machine.proofs.TurnLaws.{pass_on, pass_stops, sets_next}
 use Rattle.machine.specs.declared.run.Run.{Run}
 use Rattle.machine.specs.declared.turn.Turn.{Turn}
 

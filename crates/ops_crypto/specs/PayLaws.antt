@@ -6,7 +6,7 @@ use Rattle.machine.specs.Rules.{Rule, pay, play}
 use Rattle.machine.specs.Lent.{Bufs}
 use Rattle.machine.specs.Sound.{machine_of, Sound}
 use Rattle.machine.specs.Does.{paid_by, stops, Played, Does}
-use Rattle.machine.specs.TurnLaws.{paid_on, paid_off}
+use Rattle.machine.proofs.TurnLaws.{paid_on, paid_off}
 use Rattle.machine.specs.declared.run.Run.{Run}
 use Rattle.machine.specs.declared.run.Paid.{Paid}
 use Rattle.machine.specs.declared.run.Paid.TheVariants as paid

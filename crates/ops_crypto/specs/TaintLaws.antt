@@ -39,7 +39,7 @@ use Rattle.ops_crypto.specs.Answers.{goes_with}
 use Rattle.ops_crypto.specs.Taints.{settling, admitting}
 use Rattle.machine.specs.RunParts.{with_counts, with_keyed}
 use Rattle.machine.specs.SoundLaws.{keyed_sound, tables_sound}
-use Rattle.machine.specs.TurnLaws.{need_on, need_stops, paid_is, paid_on, paid_off}
+use Rattle.machine.proofs.TurnLaws.{need_on, need_stops, paid_is, paid_on, paid_off}
 use Rattle.state.specs.RegionLaws.{missed, found, part_is}
 
 -- ---- the base

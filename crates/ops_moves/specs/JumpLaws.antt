@@ -10,7 +10,7 @@ use Rattle.machine.specs.Machine.{Machine}
 use Rattle.machine.specs.Rules.{Rule}
 use Rattle.machine.specs.Sound.{machine_of}
 use Rattle.machine.specs.Does.{goes, stops}
-use Rattle.machine.specs.TurnLaws.{need_on, need_stops}
+use Rattle.machine.proofs.TurnLaws.{need_on, need_stops}
 use Rattle.machine.specs.RunParts.{with_place}
 use Rattle.machine.specs.SoundLaws.{place_sound}
 use Rattle.machine.specs.declared.run.Run.{Run}

@@ -23,7 +23,7 @@ use Rattle.machine.specs.Rules.{Rule, next}
 use Rattle.machine.specs.MoveRules.{pushing, popping}
 use Rattle.machine.specs.Sound.{stack_of, machine_of}
 use Rattle.machine.specs.Does.{sets, goes, stops}
-use Rattle.machine.specs.TurnLaws.{pass_stops, need_on, need_stops, goes_next, sets_next}
+use Rattle.machine.proofs.TurnLaws.{pass_stops, need_on, need_stops, goes_next, sets_next}
 use Rattle.machine.specs.RunParts.{with_depth}
 use Rattle.machine.specs.SoundLaws.{depth_sound, memory_sound, stack_sound}
 use Rattle.machine.specs.StackLaws.{stack_length, stack_pushed, stack_popped}

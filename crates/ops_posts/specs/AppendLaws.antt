@@ -20,7 +20,7 @@ use Rattle.machine.specs.Sound.{machine_of, Logged, Sound}
 use Rattle.machine.specs.RunParts.{with_log}
 use Rattle.machine.specs.SoundLaws.{with_records, log_sound}
 use Rattle.machine.specs.Does.{goes, stops}
-use Rattle.machine.specs.TurnLaws.{need_on, need_stops, goes_next}
+use Rattle.machine.proofs.TurnLaws.{need_on, need_stops, goes_next}
 use Rattle.machine.specs.declared.run.Run.{Run}
 use Rattle.ops_posts.specs.EffectRules.{Comes}
 

@@ -13,14 +13,14 @@ use Rattle.effects.specs.Targets.{target_of}
 use Rattle.effects.specs.Counts.{events}
 use Rattle.machine.specs.Machine.{Env, Machine, posted_to, bare}
 use Rattle.machine.specs.Rules.{Rule, pay}
-use Rattle.machine.specs.RuleLaws.{Same, pass_same, pay_same, pay_twice}
+use Rattle.machine.proofs.RuleLaws.{Same, pass_same, pay_same, pay_twice}
 use Rattle.machine.specs.PostRules.{target_price, event_price, total_with, posting, sending, emitting, post_of}
 use Rattle.machine.specs.Lent.{bufs}
 use Rattle.machine.specs.Sound.{machine_of}
 use Rattle.machine.specs.RunParts.{with_posted}
 use Rattle.machine.specs.SoundLaws.{posted_sound}
 use Rattle.machine.specs.Does.{paid_by, stops}
-use Rattle.machine.specs.TurnLaws.{need_on, need_stops, paid_on, paid_off, same_played}
+use Rattle.machine.proofs.TurnLaws.{need_on, need_stops, paid_on, paid_off, same_played}
 use Rattle.machine.specs.declared.action.Post.{Post}
 use Rattle.machine.specs.declared.action.Post.TheVariants.{Send, Emit}
 use Rattle.machine.specs.declared.run.Run.{Run}

@@ -9,7 +9,7 @@ use Rattle.machine.specs.Machine.{Env}
 use Rattle.machine.specs.Rules.{Rule, need}
 use Rattle.machine.specs.Lent.{Bufs}
 use Rattle.machine.specs.Does.{stops, Played}
-use Rattle.machine.specs.TurnLaws.{need_on, need_stops}
+use Rattle.machine.proofs.TurnLaws.{need_on, need_stops}
 use Rattle.machine.specs.declared.run.Run.{Run}
 use Rattle.machine.specs.declared.turn.Turn.{Turn}
 

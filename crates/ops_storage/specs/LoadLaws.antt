@@ -19,7 +19,7 @@ use Rattle.machine.specs.Sound.{machine_of}
 use Rattle.machine.specs.RunParts.{with_counts}
 use Rattle.machine.specs.SoundLaws.{with_tables, tables_sound}
 use Rattle.machine.specs.Does.{sets, stops, Played, Does}
-use Rattle.machine.specs.TurnLaws.{need_on, need_stops, sets_next}
+use Rattle.machine.proofs.TurnLaws.{need_on, need_stops, sets_next}
 use Rattle.machine.specs.declared.run.Run.{Run}
 use Rattle.machine.specs.declared.turn.Turn.{Turn}
 use Rattle.ops_storage.specs.ConditionLaws.{right_denied, right_given, room_is}

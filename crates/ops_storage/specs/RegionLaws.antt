@@ -15,7 +15,7 @@ use Rattle.machine.specs.StorageRules.{loading, storing, access_of}
 use Rattle.machine.specs.Lent.{Bufs}
 use Rattle.machine.specs.Sound.{machine_of}
 use Rattle.machine.specs.Does.{stops, Played, Does}
-use Rattle.machine.specs.TurnLaws.{need_on, need_stops}
+use Rattle.machine.proofs.TurnLaws.{need_on, need_stops}
 use Rattle.machine.specs.declared.action.Access.{Access}
 use Rattle.machine.specs.declared.action.Access.TheVariants.{SLoad, SStore}
 use Rattle.machine.specs.declared.run.Run.{Run}

@@ -21,7 +21,7 @@ use Rattle.machine.specs.Sound.{machine_of, Sound}
 use Rattle.machine.specs.RunParts.{with_counts}
 use Rattle.machine.specs.SoundLaws.{with_tables, tables_sound}
 use Rattle.machine.specs.Does.{paid_by, goes, stops, Played, Does}
-use Rattle.machine.specs.TurnLaws.{need_on, need_stops, pay_on, pay_stops, goes_next, pays_on, pays_not}
+use Rattle.machine.proofs.TurnLaws.{need_on, need_stops, pay_on, pay_stops, goes_next, pays_on, pays_not}
 use Rattle.machine.specs.declared.run.Run.{Run}
 use Rattle.machine.specs.declared.run.Paid.{Paid}
 use Rattle.machine.specs.declared.run.Paid.TheVariants as paid

@@ -56,7 +56,3 @@ cases =
 unfoldable pub all_hold : List Case → Bool
 all_hold [] = true
 all_hold (c ∷ cs) = both (same c.gives c.must) (all_hold cs)
-
-pub p_cases : all_hold cases ≡ true
-unfolding cases all_hold same decoded operated_on num num_from row_of op_with op_at form_of instr_of refusal_in unless operands_of after_opcode decode_list decode_at alu_of register_step
-p_cases = refl

@@ -25,8 +25,8 @@ use Rattle.machine.specs.declared.action.Action.{Action}
 use Rattle.machine.specs.declared.action.Action.TheVariants as action
 use Rattle.machine.specs.declared.action.Access.TheVariants.{SLoad, SStore}
 use Rattle.machine.specs.Trace.{Took, fetched_from}
-use Rattle.machine.specs.TraceLaws.{base_paid, Finished, Traced}
-use Rattle.machine.specs.TraceLaws.Traced.{faults, halts, goes}
+use Rattle.machine.proofs.TraceLaws.{base_paid, Finished, Traced}
+use Rattle.machine.proofs.TraceLaws.Traced.{faults, halts, goes}
 use Rattle.promises.specs.Grown.{start_in, tally, grew}
 use Rattle.promises.specs.CountingLaws.{tally_le, tally_has, length_more}
 use Rattle.promises.specs.FetchedLaws.{Honest, none_honest, fetch_honest}

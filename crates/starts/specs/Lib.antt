@@ -5,6 +5,3 @@ pub mod Marks
 -- laws
 pub mod SweepLaws
 pub mod MarkLaws
-pub mod ScanLaws
-pub mod WalkLaws
-pub mod StartsLaws

@@ -5,7 +5,7 @@ use Rattle.std.proofs.Math.Seq.{paste}
 use Rattle.std.proofs.lemmas.List.Edits.{length-paste}
 use Rattle.words.specs.Bytes.{num, num_from, be_bytes}
 use Rattle.words.specs.BytesLaws.{length_be_bytes}
-use Rattle.words.specs.BytesTheorems.{read_back_all}
+use Rattle.words.proofs.BytesTheorems.{read_back_all}
 use Rattle.tables.specs.Rows.{Row, row_in}
 use Rattle.tables.specs.Table.{Inserted}
 use Rattle.tables.specs.declared.store.Stored.{Stored}

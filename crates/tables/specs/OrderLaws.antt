@@ -6,7 +6,7 @@ use native.Mathlib.Omega.{arith}
 use Rattle.std.proofs.Math.ListN.{length}
 use Rattle.std.proofs.Math.Seq.{length-take-le}
 use Rattle.words.specs.Bytes.{num, num_from, be_bytes, Bytes}
-use Rattle.words.specs.BytesTheorems.{bytes_take, bytes_drop, num_from_append, write_back}
+use Rattle.words.proofs.BytesTheorems.{bytes_take, bytes_drop, num_from_append, write_back}
 use Rattle.tables.specs.Order.{order_of}
 use Rattle.tables.specs.Walks.{Agree}
 use Rattle.tables.specs.declared.order.Order.TheVariants.{Less, Equal, Greater}

@@ -3,7 +3,7 @@ use Rattle.std.specs.Prelude.{◌≡◌, refl, Bool, true, false, not, List, ◌
 use Rattle.std.proofs.Common.{sym, ap, ◌∙◌, subst, append_assoc, arith, suc-mul, zero-mul, mul-le-mul_right, take-append-drop, length-drop, drop-drop, get_or-drop, leb-true}
 use Rattle.words.specs.Bytes.{be_bytes, Bytes}
 use Rattle.words.specs.Choice.{pick, is_some}
-use Rattle.words.specs.BytesTheorems.{write_back}
+use Rattle.words.proofs.BytesTheorems.{write_back}
 use Rattle.tables.specs.Rows.{Row, row_in, rows, bytes_of, insert, lookup}
 use Rattle.tables.specs.Table.{Table, After, stored_of, Inserted}
 use Rattle.tables.specs.LayoutLaws.{rows_length}

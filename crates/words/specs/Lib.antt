@@ -12,5 +12,3 @@ pub mod BytesLaws
 pub mod LaidLaws
 pub mod WholeLaws
 pub mod WideLaws
--- theorems
-pub mod BytesTheorems

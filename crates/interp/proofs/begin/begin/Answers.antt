@@ -1,6 +1,6 @@
 -- `begin` meets its contract. Assumes nothing.
 use native.Mathlib.Omega.{arith}
-use Rattle.starts.specs.StartsLaws.{marks_starts}
+use Rattle.starts.proofs.StartsLaws.{marks_starts}
 use Rattle.interp.specs.BufferLaws.{preload_wiped}
 use Rattle.interp.proofs.begin.begin.Goals as goal
 

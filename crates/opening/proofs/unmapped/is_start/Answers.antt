@@ -1,6 +1,5 @@
 -- `is_start` meets its contract. The loop's invariant: what is left of the code decides. Assumes nothing.
 use mathlib.Core.Path.{◌≡◌, sym, ◌∙◌}
-use Prim.Native.Nat.{◌-◌}
 use native.Mathlib.Omega.{arith}
 use Rattle.isa.specs.Codec.{decode_at}
 use Rattle.isa.specs.RoundTripTheorems.{Place, decode_place}

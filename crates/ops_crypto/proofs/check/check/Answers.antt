@@ -10,7 +10,7 @@ use Rattle.machine.specs.Machine.{Env}
 use Rattle.machine.specs.Rules.{next}
 use Rattle.machine.specs.CryptoRules.{asking, check_of}
 use Rattle.machine.specs.Lent.{Bufs, bufs}
-use Rattle.machine.specs.TurnLaws.{paid_is}
+use Rattle.machine.proofs.TurnLaws.{paid_is}
 use Rattle.ops_crypto.specs.PayLaws.{Priced}
 use Rattle.ops_crypto.specs.CheckLaws.{check_pays}
 use Rattle.ops_crypto.proofs.check.check.Goals as goal

@@ -8,7 +8,7 @@ use Rattle.machine.specs.Rules.{Rule}
 use Rattle.machine.specs.CryptoRules.{asking, tainting, hash_of}
 use Rattle.machine.specs.Lent.{Bufs, lent_to}
 use Rattle.machine.specs.Sound.{machine_of}
-use Rattle.machine.specs.TurnLaws.{paid_is}
+use Rattle.machine.proofs.TurnLaws.{paid_is}
 use Rattle.ops_crypto.specs.Taints.{base_in}
 use Rattle.ops_crypto.specs.PayLaws.{Priced}
 use Rattle.ops_crypto.specs.HashLaws.{hash_pays}

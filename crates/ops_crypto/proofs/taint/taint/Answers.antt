@@ -15,7 +15,7 @@ use Rattle.machine.specs.Machine.{Env}
 use Rattle.machine.specs.CryptoRules.{tainting}
 use Rattle.machine.specs.Lent.{Bufs, lent_to}
 use Rattle.machine.specs.Does.{DoesFrom, puts}
-use Rattle.machine.specs.TurnLaws.{paid_is}
+use Rattle.machine.proofs.TurnLaws.{paid_is}
 use Rattle.machine.specs.declared.run.Run.{Run}
 use Rattle.machine.specs.declared.turn.Turn.{Turn}
 use Rattle.ops_crypto.specs.declared.taint.Base.{Base}

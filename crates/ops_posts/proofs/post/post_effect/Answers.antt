@@ -8,7 +8,7 @@ use Rattle.state.specs.RegionLaws.{part_ordered, part_ends}
 use Rattle.effects.specs.Log.{Effect}
 use Rattle.machine.specs.PostRules.{posting}
 use Rattle.machine.specs.RunParts.{with_posted, with_used}
-use Rattle.machine.specs.TurnLaws.{paid_is}
+use Rattle.machine.proofs.TurnLaws.{paid_is}
 use Rattle.machine.specs.declared.run.Run.{Run}
 use Rattle.machine.specs.declared.turn.Turn.{Turn}
 use Rattle.ops_posts.specs.EffectRules.{effect, charging, placing, Comes}

@@ -9,7 +9,7 @@ use Rattle.isa.specs.declared.codec.Decoded.TheVariants.{Done}
 use Rattle.isa.specs.declared.flow.Refers.{Refers}
 use Rattle.isa.specs.Refers.{refers_to}
 use Rattle.starts.specs.Walk.{ended, met, index_of}
-use Rattle.starts.specs.ScanLaws.{scan_begins, scan_end, scan_refused, scan_bad, scan_on}
+use Rattle.starts.proofs.ScanLaws.{scan_begins, scan_end, scan_refused, scan_bad, scan_on}
 use Rattle.starts.proofs.scan.scan.Goals as goal
 use Rattle.starts.proofs.scan.scan.Goals.{After-index_of}
 

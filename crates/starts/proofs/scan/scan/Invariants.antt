@@ -1,6 +1,6 @@
 use Prim.Native.Nat.{◌-◌}
 use lib.ListN.{length}
-use Rattle.starts.specs.ScanLaws.{Scanning}
+use Rattle.starts.proofs.ScanLaws.{Scanning}
 use Rattle.starts.proofs.scan.scan.Given as goal
 
 abbrev pub invariant-loop-place : goal.invariant-loop-place

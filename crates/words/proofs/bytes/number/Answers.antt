@@ -1,7 +1,8 @@
 -- `words::bytes::number` meets its contract. Assumes nothing.
 use mathlib.Core.Path.{refl}
 use native.Mathlib.Omega.{arith}
-use Rattle.words.specs.BytesLaws.{below_pow, pow_room, number_turn, number_end}
+use Rattle.words.specs.BytesLaws.{below_pow, pow_room, number_end}
+use Rattle.words.proofs.NumberLaws.{number_turn}
 use Rattle.words.specs.Bytes.{num, num_from}
 use Rattle.words.proofs.bytes.number.Goals as goal
 

@@ -21,9 +21,9 @@ use Rattle.opening.specs.Opening.{Input, Lent, Opening, refuse, start, env_of, m
 use Rattle.interp.specs.Call.{called, halted_as, kept_of, refused_as, ending, running, call_of}
 use Rattle.promises.specs.OpenedLaws.{StartedFrom, starts_from, Numbered, refusals_numbered}
 use Rattle.promises.specs.Accounts.{bill_of, stored_in}
-use Rattle.machine.specs.TraceLaws.{Traced, runs}
-use Rattle.promises.specs.BillLaws.{run_counts, fetches_of, run_fetches}
-use Rattle.promises.specs.RightsLaws.{Allows, run_righted, run_stored}
+use Rattle.machine.proofs.TraceLaws.{Traced, runs}
+use Rattle.promises.proofs.BillLaws.{run_counts, fetches_of, run_fetches}
+use Rattle.promises.proofs.RightsLaws.{Allows, run_righted, run_stored}
 use Rattle.promises.specs.Grown.{loader_rows, start_in}
 use Rattle.promises.specs.RunGrowthLaws.{Growth, none_grew, grown_paid, run_grows}
 use Rattle.promises.specs.Promised.{ran_of, bill_for, start_at, Halted, Promised}

@@ -9,7 +9,7 @@ use Rattle.state.specs.Regs.{set_reg}
 use Rattle.state.specs.declared.regs.RegFile.{RegFile}
 use Rattle.machine.specs.Machine.{Env, Machine, metered, bare}
 use Rattle.machine.specs.Steps.{Step}
-use Rattle.machine.specs.RuleLaws.{Same}
+use Rattle.machine.proofs.RuleLaws.{Same}
 use Rattle.machine.specs.Rules.{Rule, next, pass, need, pay, play}
 use Rattle.machine.specs.Lent.{Bufs}
 use Rattle.machine.specs.Sound.{machine_of, Sound}

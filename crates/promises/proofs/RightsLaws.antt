@@ -11,7 +11,7 @@ use Rattle.keys.specs.Known.{Keys}
 use Rattle.keys.specs.Values.{row, has, put_if, may_store}
 use Rattle.keys.specs.Steps.{loaded, stored, authorised}
 use Rattle.machine.specs.Machine.{Env, Machine, bare}
-use Rattle.machine.specs.RuleLaws.{Passed}
+use Rattle.machine.proofs.RuleLaws.{Passed}
 use Rattle.machine.specs.Actions.{action_of}
 use Rattle.machine.specs.StorageRules.{key_at, storing, access_of}
 use Rattle.machine.specs.Grants.{Grant, grant_by}
@@ -22,8 +22,8 @@ use Rattle.machine.specs.declared.action.Action.TheVariants as action
 use Rattle.machine.specs.declared.action.Access.TheVariants.{SLoad, SStore}
 use Rattle.machine.specs.Trace.{Took, took}
 use Rattle.promises.specs.Accounts.{stores_by, stores_of, writable, grants_by, grants_of, Righted, stored_in}
-use Rattle.machine.specs.TraceLaws.{Traced}
-use Rattle.machine.specs.TraceLaws.Traced.{faults, halts, goes}
+use Rattle.machine.proofs.TraceLaws.{Traced}
+use Rattle.machine.proofs.TraceLaws.Traced.{faults, halts, goes}
 use Rattle.promises.specs.CountingLaws.{has_insert}
 
 -- ---- tests

@@ -12,7 +12,7 @@ use Rattle.interp.specs.Call.{called, call_of, lent_as}
 use Rattle.interp.proofs.call.run.Kinds as kinds
 use Rattle.interp.proofs.call.run.Reads as reads
 use Rattle.promises.specs.Promised.{Promised}
-use Rattle.promises.specs.CallTheorems.{promised}
+use Rattle.promises.proofs.CallTheorems.{promised}
 
 module _ (κs : Lfts 14) (a : Dens κs kinds.ps) where
   -- the arguments as a call's input, and the buffers at entry and at exit

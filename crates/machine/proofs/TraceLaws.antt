@@ -19,7 +19,7 @@ use Rattle.machine.specs.Steps.{Step, next, halt, fault}
 use Rattle.machine.specs.Actions.{action_of}
 use Rattle.machine.specs.Rules.{need, play, bill}
 use Rattle.machine.specs.Turns.{rule_of, step_of, fetch_of, turn_of, End, halted, faulted, end_of, run_of}
-use Rattle.machine.specs.RuleLaws.{Passed, AtEnd, Keeps, keeps}
+use Rattle.machine.proofs.RuleLaws.{Passed, AtEnd, Keeps, keeps}
 use Rattle.machine.specs.KeysLaws.{keys_after, keys_left}
 use Rattle.machine.specs.CostLaws.{step_costs}
 use Rattle.machine.specs.Trace.{Took, fetched_from, took, steps_from, steps_of}

@@ -5,8 +5,8 @@ use Rattle.machine.specs.Machine.{Env, Machine}
 use Rattle.machine.specs.Turns.{End, halted, faulted}
 use Rattle.machine.specs.Trace.{Took, took}
 use Rattle.promises.specs.Accounts.{price_in, bill_of}
-use Rattle.machine.specs.TraceLaws.{Traced, goes_uses}
-use Rattle.machine.specs.TraceLaws.Traced.{faults, halts, goes}
+use Rattle.machine.proofs.TraceLaws.{Traced, goes_uses}
+use Rattle.machine.proofs.TraceLaws.Traced.{faults, halts, goes}
 
 -- a machine that halts after steps from m
 pub record HaltedAfter (e : Env) (m : Machine) (ts : List Took) (p : Machine) : Type 0 where

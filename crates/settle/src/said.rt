@@ -1,4 +1,5 @@
 // Lines on standard output, and complaints on standard error.
+use print::parts::first;
 use std::alloc::Global;
 use std::io;
 use std::io::Write;
@@ -20,11 +21,8 @@ pub fn failed<E: Write>(
     refusal: &io::Error,
 ) -> io::Result<()> {
     let text = refusal.to_string(alloc)?;
-    let why = match text.split_once(" (os error ") {
-        Some((word, _)) => word,
-        None => text.as_str(),
-    };
-    complain(err, what, why.as_bytes())
+    let n = text.find(" (os error ").unwrap_or(text.len());
+    complain(err, what, first(text.as_bytes(), n))
 }
 
 // The first n bytes and the line's end.

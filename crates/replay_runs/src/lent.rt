@@ -51,14 +51,12 @@ pub fn repeat(t: &mut [u8], s: &[u8], times: u64) -> usize {
 }
 
 // An array this long is only named by its length: the prover would count its bytes one by one.
-#[tactic(none)]
 pub fn for_replies() -> [u8; 786480]
     ensures { 786480 ≡ length result }
 {
     [0; 786480]
 }
 
-#[tactic(none)]
 pub fn for_log() -> [u8; 1048576]
     ensures { 1048576 ≡ length result }
 {

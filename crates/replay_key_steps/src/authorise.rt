@@ -1,8 +1,8 @@
 // Authorising a key made from a base.
-ghost use Rattle.std.specs.Prelude.{◌≡◌, length, IfOk};
+ghost use Rattle.std.specs.Prelude.{◌≡◌, length};
 ghost use Rattle.keys.specs.Lent.{KeyBufs, key_bufs};
 ghost use Rattle.keys.specs.Sound.{Good};
-ghost use Rattle.replay_key_steps.specs.Sound.{Among};
+ghost use Rattle.replay_key_steps.specs.Sound.{Among, Leaves};
 
 use keys::counts::Counts;
 use std::io;
@@ -19,7 +19,7 @@ pub(crate) fn authorise<W: Write>(
 ) -> io::Result<Counts>
     requires { Among c (λ b. key_bufs b.changes b.fetched readable.old writable.old b.paid) ×
         (length slots.now ≡ 384) × (length step.now ≡ 41) }
-    ensures { IfOk result (λ d. (b : KeyBufs) →
+    ensures { Leaves result (λ d. (b : KeyBufs) →
         Good c (key_bufs b.changes b.fetched readable.old writable.old b.paid) →
         Good d (key_bufs b.changes b.fetched readable.new writable.new b.paid)) }
 {

@@ -1,8 +1,8 @@
 // Loading a key.
-ghost use Rattle.std.specs.Prelude.{◌≡◌, length, IfOk};
+ghost use Rattle.std.specs.Prelude.{◌≡◌, length};
 ghost use Rattle.keys.specs.Lent.{KeyBufs, key_bufs};
 ghost use Rattle.keys.specs.Sound.{Good};
-ghost use Rattle.replay_key_steps.specs.Sound.{Lends, Among};
+ghost use Rattle.replay_key_steps.specs.Sound.{Lends, Among, Leaves};
 
 use keys::counts::Counts;
 use keys::look::{TableRows, look_up};
@@ -24,7 +24,7 @@ pub(crate) fn load<W: Write>(
 ) -> io::Result<Counts>
     requires { Lends n store.now loader.now ×
         Among c (λ b. key_bufs changes.now fetched.old readable.now b.may_write b.paid) × (length slots.now ≡ 384) × (length step.now ≡ 41) }
-    ensures { IfOk result (λ d. (b : KeyBufs) →
+    ensures { Leaves result (λ d. (b : KeyBufs) →
         Good c (key_bufs changes.now fetched.old readable.now b.may_write b.paid) →
         Good d (key_bufs changes.now fetched.new readable.now b.may_write b.paid)) }
 {

@@ -1,8 +1,8 @@
 // The records of a run: an operation (1 byte), a key (32) and a value (8).
-ghost use Rattle.std.specs.Prelude.{◌≡◌, length, IfOk};
+ghost use Rattle.std.specs.Prelude.{◌≡◌, length};
 ghost use Rattle.keys.specs.Lent.{key_bufs};
 ghost use Rattle.keys.specs.Sound.{Good};
-ghost use Rattle.replay_key_steps.specs.Sound.{Lends};
+ghost use Rattle.replay_key_steps.specs.Sound.{Lends, Leaves};
 
 use keys::counts::Counts;
 use keys::look::TableRows;
@@ -25,7 +25,7 @@ fn one<W: Write>(
 ) -> io::Result<Counts>
     requires { Lends n store.now loader.now ×
         Good c (key_bufs changes.old fetched.old readable.old writable.old paid.old) × (length slots.now ≡ 384) × (length step.now ≡ 41) }
-    ensures { IfOk result (λ d. Good d (key_bufs changes.new fetched.new readable.new writable.new paid.new)) }
+    ensures { Leaves result (λ d. Good d (key_bufs changes.new fetched.new readable.new writable.new paid.new)) }
 {
     match step[0] {
         0 => crate::load::load(

@@ -1,8 +1,8 @@
 // Storing a value at a key.
-ghost use Rattle.std.specs.Prelude.{◌≡◌, length, IfOk};
+ghost use Rattle.std.specs.Prelude.{◌≡◌, length};
 ghost use Rattle.keys.specs.Lent.{KeyBufs, key_bufs};
 ghost use Rattle.keys.specs.Sound.{Good};
-ghost use Rattle.replay_key_steps.specs.Sound.{Lends, Among};
+ghost use Rattle.replay_key_steps.specs.Sound.{Lends, Among, Leaves};
 
 use keys::counts::Counts;
 use keys::look::TableRows;
@@ -26,7 +26,7 @@ pub(crate) fn store<W: Write>(
 ) -> io::Result<Counts>
     requires { Lends n store.now loader.now ×
         Among c (λ b. key_bufs changes.old fetched.old b.may_read writable.now paid.old) × (length slots.now ≡ 384) × (length step.now ≡ 41) }
-    ensures { IfOk result (λ d. (b : KeyBufs) →
+    ensures { Leaves result (λ d. (b : KeyBufs) →
         Good c (key_bufs changes.old fetched.old b.may_read writable.now paid.old) →
         Good d (key_bufs changes.new fetched.new b.may_read writable.now paid.new)) }
 {

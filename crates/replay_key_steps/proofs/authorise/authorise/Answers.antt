@@ -1,4 +1,5 @@
 -- It authorises where the plan has room, and that leaves good tables.
+use Rattle.std.proofs.lemmas.Result.{err_from_is_err_and}
 use Rattle.std.proofs.lemmas.Bool.{not-false}
 use Rattle.std.proofs.Common.{false, [], take, drop, length, ◌-◌, List, ℕ}
 use Rattle.keys.specs.Lent.{Given, given, key_bufs}
@@ -28,3 +29,28 @@ returns g c =
     λ b ok.
     let plan = c.plan_authorise-plan.ensures no_store [] [] [] [] b.changes b.fetched b.paid ok in
     (c.authorise-d.ensures no_store (keyed c.args.slots.now) _ b.changes b.fetched b.paid ok plan).good
+
+pub returns-in_err-text : goal.returns-in_err-text
+returns-in_err-text g c =
+    let p = err_from_is_err_and c.from_residual.result c.from_residual.ensures.1 in
+    rw p.1 (c.args.c, λ b ok. ok)
+
+pub returns-in_err-key_plan : goal.returns-in_err-key_plan
+returns-in_err-key_plan g c =
+    let p = err_from_is_err_and c.from_residual-in_err-key_plan.result c.from_residual-in_err-key_plan.ensures.1 in
+    rw p.1 (c.args.c, λ b ok. ok)
+
+pub returns-in_err-text-2 : goal.returns-in_err-text-2
+returns-in_err-text-2 g c =
+    let p = err_from_is_err_and c.from_residual-in_err-text-2.result c.from_residual-in_err-text-2.ensures.1 in
+    rw p.1 (c.args.c, λ b ok. ok)
+
+pub returns-in_err-authorised : goal.returns-in_err-authorised
+returns-in_err-authorised g c =
+    let p = err_from_is_err_and c.from_residual-in_err-authorised.result c.from_residual-in_err-authorised.ensures.1 in
+    rw p.1 (
+      c.authorise-d.result,
+      λ b ok.
+          let plan = c.plan_authorise-plan.ensures no_store [] [] [] [] b.changes b.fetched b.paid ok in
+          (c.authorise-d.ensures no_store (keyed c.args.slots.now) _ b.changes b.fetched b.paid ok plan).good,
+    )

@@ -1,4 +1,5 @@
 -- It loads where there is room, and that leaves good tables.
+use Rattle.std.proofs.lemmas.Result.{err_from_is_err_and}
 use Rattle.std.proofs.Common.{arith, sym, length-take-le, []}
 use Rattle.keys.specs.Values.{look}
 use Rattle.keys.specs.Lent.{given, key_bufs}
@@ -30,3 +31,25 @@ returns g c =
     let a = c.args in
     let s = given [] [] [] [] a.store.now a.loader.now in
     (c.load-d.ensures a.n s a.changes.now a.readable.now b.may_write b.paid ok c.look_up-seen.ensures).good
+
+pub returns-in_err-text : goal.returns-in_err-text
+returns-in_err-text g c =
+    let p = err_from_is_err_and c.from_residual.result c.from_residual.ensures.1 in
+    rw p.1 (c.args.c, λ b ok. ok)
+
+pub returns-in_err-text-2 : goal.returns-in_err-text-2
+returns-in_err-text-2 g c =
+    let p = err_from_is_err_and c.from_residual-in_err-text-2.result c.from_residual-in_err-text-2.ensures.1 in
+    rw p.1 (c.args.c, λ b ok. ok)
+
+pub returns-in_err-loaded : goal.returns-in_err-loaded
+unfolding look
+returns-in_err-loaded g c =
+    let p = err_from_is_err_and c.from_residual-in_err-loaded.result c.from_residual-in_err-loaded.ensures.1 in
+    rw p.1 (
+      c.load-d.result,
+      λ b ok.
+          let a = c.args in
+          let s = given [] [] [] [] a.store.now a.loader.now in
+          (c.load-d.ensures a.n s a.changes.now a.readable.now b.may_write b.paid ok c.look_up-seen.ensures).good,
+    )

@@ -1,4 +1,5 @@
 -- It stores where the plan has room, and that leaves good tables.
+use Rattle.std.proofs.lemmas.Result.{err_from_is_err_and}
 use Rattle.std.proofs.Common.{[]}
 use Rattle.std.proofs.lemmas.Bool.{not-false}
 use Rattle.keys.specs.Lent.{given, key_bufs}
@@ -24,3 +25,30 @@ returns g c =
     let s = given [] [] [] [] a.store.now a.loader.now in
     let plan = c.plan_store-plan.ensures [] [] [] [] b.may_read ok in
     (c.store-d.ensures a.n s b.may_read a.writable.now ok plan).good
+
+pub returns-in_err-text : goal.returns-in_err-text
+returns-in_err-text g c =
+    let p = err_from_is_err_and c.from_residual.result c.from_residual.ensures.1 in
+    rw p.1 (c.args.c, λ b ok. ok)
+
+pub returns-in_err-store_plan : goal.returns-in_err-store_plan
+returns-in_err-store_plan g c =
+    let p = err_from_is_err_and c.from_residual-in_err-store_plan.result c.from_residual-in_err-store_plan.ensures.1 in
+    rw p.1 (c.args.c, λ b ok. ok)
+
+pub returns-in_err-text-2 : goal.returns-in_err-text-2
+returns-in_err-text-2 g c =
+    let p = err_from_is_err_and c.from_residual-in_err-text-2.result c.from_residual-in_err-text-2.ensures.1 in
+    rw p.1 (c.args.c, λ b ok. ok)
+
+pub returns-in_err-stored : goal.returns-in_err-stored
+returns-in_err-stored g c =
+    let p = err_from_is_err_and c.from_residual-in_err-stored.result c.from_residual-in_err-stored.ensures.1 in
+    rw p.1 (
+      c.store-d.result,
+      λ b ok.
+          let a = c.args in
+          let s = given [] [] [] [] a.store.now a.loader.now in
+          let plan = c.plan_store-plan.ensures [] [] [] [] b.may_read ok in
+          (c.store-d.ensures a.n s b.may_read a.writable.now ok plan).good,
+    )

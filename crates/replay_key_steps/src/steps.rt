@@ -9,6 +9,14 @@ use keys::look::TableRows;
 use std::io;
 use std::io::Write;
 
+const NO_ROWS: Counts = Counts {
+    changes: 0,
+    fetched: 0,
+    reads: 0,
+    writes: 0,
+    paid: 0,
+};
+
 fn one<W: Write>(
     out: &mut W,
     step: &[u8],
@@ -58,13 +66,7 @@ pub(crate) fn steps<W: Write>(
     let mut readable = [0u8; 330];
     let mut writable = [0u8; 256];
     let mut paid = [0u8; 130];
-    let mut c = Counts {
-        changes: 0,
-        fetched: 0,
-        reads: 0,
-        writes: 0,
-        paid: 0,
-    };
+    let mut c = NO_ROWS;
     let mut at = 0;
     while 41 <= records.len() - at {
         let end = at + 41;

@@ -20,6 +20,7 @@ pub enum Written {
 const FOUR_BYTES: u64 = 0x1_0000_0000;
 
 // Whether every number is within four bytes.
+#[tactic(auto, using(crate::proofs::Short::short_here, crate::proofs::Short::short_next))]
 fn all_short(list: &[u64]) -> bool
     ensures { result ≡ all_short list.now }
 {
@@ -57,6 +58,7 @@ fn begins_entry(list: &[u64]) -> bool
 }
 
 // Whether the list is as many entries as it says, and nothing after them.
+#[tactic(auto, using(crate::specs::WriterLaws::listed_large, crate::proofs::Short::listed_small))]
 fn is_list(list: &[u64]) -> bool
     ensures { result ≡ is_some (listed list.now) }
 {

@@ -1,2 +1,4 @@
 -- What the proofs of more than one module use.
 mod Tags
+pub mod FirstBad
+pub mod NoRoom

@@ -126,6 +126,7 @@ pub fn read_reg(code: &[u8], at: usize) -> ReadAt
 }
 
 // The first register of 16 or more among the first n bytes of s, as far as they stand.
+#[tactic(auto, using(crate::proofs::FirstBad::bad_here, crate::proofs::FirstBad::bad_next))]
 fn first_bad(s: &[u8], n: usize) -> FirstBad
     ensures { result ≡ first_bad (take n s.now) }
 {
@@ -294,6 +295,7 @@ pub fn bad_register(i: Instr) -> FirstBad
 }
 
 // The bytes of an instruction into the output, and how many; a refusal leaves the output as it is.
+#[tactic(auto, using(crate::proofs::NoRoom::no_room_answer, crate::proofs::NoRoom::no_room_output))]
 pub fn encode(i: Instr, out: &mut [u8]) -> Encoded
     ensures answer { result ≡ encoded_of i out.old }
     ensures output { out.new ≡ output_of i out.old }

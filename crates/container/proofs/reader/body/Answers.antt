@@ -59,9 +59,9 @@ entries_stand c =
 pub returns-then-end-s : goal.returns-then-end-s
 returns-then-end-s c =
     left_over (bytes (goal.at-returns-then-end-s c).After-counted_at) (size (goal.at-returns-then-end-s c).After-counted_at) c.read-code.ensures (omega (arith, code_stands (goal.at-returns-then-end-s c).After-counted_at)) (code_stands (goal.at-returns-then-end-s c).After-counted_at) _ (next (goal.at-returns-then-end-s c).After-left) (consts_found (goal.at-returns-then-end-s c).After-left)
-    c.read-entries.result c.read-entries.ensures (count_stands (goal.at-returns-then-end-s c).After-entries_end) _ (entries_stand (goal.at-returns-then-end-s c).In-At) c.if-end-s.true
+    c.read-entries.result c.read-entries.ensures (count_stands (goal.at-returns-then-end-s c).After-entries_end) _ (entries_stand (goal.at-returns-then-end-s c).In-At) (omega arith)
 
 pub returns : goal.returns
 returns c =
     all_read (bytes (goal.at-returns c).After-counted_at) (size (goal.at-returns c).After-counted_at) c.read-code.ensures (omega (arith, code_stands (goal.at-returns c).After-counted_at)) (code_stands (goal.at-returns c).After-counted_at) _ (next (goal.at-returns c).After-left) (consts_found (goal.at-returns c).After-left)
-    c.read-entries.result c.read-entries.ensures (count_stands (goal.at-returns c).After-entries_end) _ (entries_stand (goal.at-returns c).In-At) c.if-end-s.false
+    c.read-entries.result c.read-entries.ensures (count_stands (goal.at-returns c).After-entries_end) _ (entries_stand (goal.at-returns c).In-At) (omega arith)

@@ -15,14 +15,6 @@ use Rattle.container_writer.proofs.writer.is_list.Goals.{After-slots-n, Else-not
 pub returns-then-list-eq0 : goal.returns-then-list-eq0
 returns-then-list-eq0 c = sym (listed_empty c.args.list.now c.if-list-eq0.true)
 
-pub returns-then-left-ge-FOUR_BYTES : goal.returns-then-left-ge-FOUR_BYTES
-returns-then-left-ge-FOUR_BYTES c = sym (listed_large c.args.list.now c.if-left-ge-FOUR_BYTES.true)
-
-pub loop-left-init : goal.loop-left-init
-loop-left-init c =
-    let list = c.args.list.now in
-    (omega arith, ap is_some (listed_is list (omega arith) c.if-left-ge-FOUR_BYTES.false))
-
 pub returns-then-not-begins_entry : goal.returns-then-not-begins_entry
 returns-then-not-begins_entry c =
     let list = c.args.list.now in

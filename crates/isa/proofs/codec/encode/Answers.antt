@@ -28,19 +28,13 @@ overflow_add-size c = rw c.row-row.ensures (omega (arith, row_small c))
 pub overflow_add-size-2 : goal.overflow_add-size-2
 overflow_add-size-2 c = rw c.row-row.ensures (omega (arith, row_small c))
 
-pub returns-then-out-size : goal.returns-then-out-size
-returns-then-out-size c =
-    let a = c.args in
-    let e = encoded_no_room a.i a.out.now c.parts_of-p.result c.row-row.result c.parts_of-p.ensures c.row-row.ensures (no_bad (goal.at-returns-then-out-size c).In_default) c.if-out-size.true in
-    record { answer = e.answer; output = e.output }
-
 pub put-requires : goal.put-requires
 put-requires c =
     let a = c.args in
-    (c.if-out-size.false, regs_stand a.i c.parts_of-p.result c.row-row.result c.parts_of-p.ensures c.row-row.ensures)
+    ((omega arith), regs_stand a.i c.parts_of-p.result c.row-row.result c.parts_of-p.ensures c.row-row.ensures)
 
 pub returns : goal.returns
 returns c =
     let a = c.args in
-    let e = encoded_done a.i a.out.now c.parts_of-p.result c.row-row.result c.parts_of-p.ensures c.row-row.ensures (no_bad (goal.at-returns c).In_default) c.if-out-size.false _ c.put.ensures in
+    let e = encoded_done a.i a.out.now c.parts_of-p.result c.row-row.result c.parts_of-p.ensures c.row-row.ensures (no_bad (goal.at-returns c).In_default) (omega arith) _ c.put.ensures in
     record { answer = e.answer; output = e.output }

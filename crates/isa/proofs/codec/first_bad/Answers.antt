@@ -11,16 +11,6 @@ returns-then-s-i c =
     let a = c.args in
     sym (c.loop-i.invariant ∙ bad_end a.n a.s.now c.loop-i.i (rw length-take (omega arith)))
 
-pub returns-then-b-ge-NUM_REGS : goal.returns-then-b-ge-NUM_REGS
-returns-then-b-ge-NUM_REGS c =
-    let a = c.args in
-    sym (c.loop-i.invariant ∙ bad_turn a.n a.s.now c.loop-i.i (omega arith) (omega arith) ∙ rw (le-ltb (get_or a.s.now c.loop-i.i 0) 16 c.if-b-ge-NUM_REGS.true))
-
-pub loop-i-preserved : goal.loop-i-preserved
-loop-i-preserved c =
-    let a = c.args in
-    c.loop-i.invariant ∙ bad_turn a.n a.s.now c.loop-i.i (omega arith) (omega arith) ∙ rw (lt-ltb (get_or a.s.now c.loop-i.i 0) 16 c.if-b-ge-NUM_REGS.false)
-
 pub returns : goal.returns
 returns c =
     let a = c.args in

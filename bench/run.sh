@@ -1,5 +1,5 @@
 #!/bin/sh
-# run.sh [QVM_SRC]: builds our library and the QVM Rust for this processor and prints how long both take on the same calls.
+# run.sh [QVM_SRC]: builds our library and the QVM Rust for x86-64 and prints how long both take on the same calls.
 set -eu
 cd "$(dirname "$0")/.."
 QVM_SRC=${1:-${QVM_SRC:-../shared/docs/src}} sh oracle/build.sh

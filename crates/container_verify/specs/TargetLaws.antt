@@ -30,15 +30,15 @@ aims code starts = record {
   next = λ p i n k l h. rw h;
 }
 
-or_else : (r : Refers) (map starts : List ℕ) → Holds map starts → (next : Option ℕ) → Yes ≡ target_stands r (marked map) → bad_or r starts next ≡ next
+or_else_lem : (r : Refers) (map starts : List ℕ) → Holds map starts → (next : Option ℕ) → Yes ≡ target_stands r (marked map) → bad_or r starts next ≡ next
 unfolding bad_or target_stands
-or_else (Target t) map starts h next e = by (member t starts) (e ∙ rw (h.at t))
+or_else_lem (Target t) map starts h next e = by (member t starts) (e ∙ rw (h.at t))
   where
     by : (b : Bool) → Yes ≡ pick b Yes (No t) → pick b next (some t) ≡ next
     by true e = refl
     by false e = absurd (let z : ◌≡◌ {A = ℕ} 0 1 = cc in omega arith)
-or_else (Const k) map starts h next e = refl
-or_else Nothing map starts h next e = refl
+or_else_lem (Const k) map starts h next e = refl
+or_else_lem Nothing map starts h next e = refl
 
 or_bad : (r : Refers) (map starts : List ℕ) → Holds map starts → (next : Option ℕ) (t : ℕ) → No t ≡ target_stands r (marked map) → bad_or r starts next ≡ some t
 unfolding bad_or target_stands
@@ -80,4 +80,4 @@ module _ (code map : List ℕ) (place : ℕ) (i : Aiming code map place) where
 
       pub aim_on : Yes ≡ target_stands (refers_to x) (marked map) → Aiming code map (place + n)
       unfolding target_by
-      aim_on b = record { left = λ starts h. by_decode starts h ∙ rw d (or_else (refers_to x) map starts h (ahead code starts (place + n)) b) }
+      aim_on b = record { left = λ starts h. by_decode starts h ∙ rw d (or_else_lem (refers_to x) map starts h (ahead code starts (place + n)) b) }

@@ -91,8 +91,8 @@ or_with e (some es) h = refl
 pub is_turn : (n : ℕ) (xs : List ℕ) → 0 < n → begins_entry xs ≡ true → is_some (entries_in n xs) ≡ is_some (entries_in (n - 1) (after_entry xs))
 is_turn n xs h b = rw (entries_turn n xs h, b) (is_with (entry_in xs) (entries_in (n - 1) (after_entry xs)))
 
-pub is_none : (n : ℕ) (xs : List ℕ) → 0 < n → begins_entry xs ≡ false → is_some (entries_in n xs) ≡ false
-is_none n xs h b = rw (entries_turn n xs h, b)
+pub is_none_lem : (n : ℕ) (xs : List ℕ) → 0 < n → begins_entry xs ≡ false → is_some (entries_in n xs) ≡ false
+is_none_lem n xs h b = rw (entries_turn n xs h, b)
 
 pub is_end : (n : ℕ) (xs : List ℕ) → n ≡ 0 → is_some (entries_in n xs) ≡ eqb 0 (length xs)
 unfolding entries_in nothing_left
@@ -136,7 +136,7 @@ more n xs h s = by (begins_entry xs) refl
           next = next;
           are = rw (entries_turn n xs h, b) (or_with (entry_in xs) (entries_in (n - 1) (after_entry xs)) next);
         }
-    by false b = let z : true ≡ false = sym s ∙ is_none n xs h b in let w : ◌≡◌ {A = ℕ} 0 1 = cc in absurd (omega arith)
+    by false b = let z : true ≡ false = sym s ∙ is_none_lem n xs h b in let w : ◌≡◌ {A = ℕ} 0 1 = cc in absurd (omega arith)
 
 pub bytes_turn : (n : ℕ) (xs : List ℕ) → More n xs →
     entries_bytes (or_empty (entries_in n xs)) ≡ entry_bytes (entry_in xs) ++ entries_bytes (or_empty (entries_in (n - 1) (after_entry xs)))

@@ -19,7 +19,7 @@ use Rattle.words.specs.declared.refusal.Refusal.{Refusal}
 use Rattle.machine.specs.Turns.{End, halted, faulted, run_of}
 use Rattle.opening.specs.Opening.{Input, Lent, Opening, refuse, start, env_of, machine_for, opening_of}
 use Rattle.interp.specs.Call.{called, halted_as, kept_of, refused_as, ending, running, call_of}
-use Rattle.promises.specs.OpenedLaws.{StartedFrom, starts_from, Numbered, refusals_numbered}
+use Rattle.promises.specs.OpenedLaws.{StartedFrom, starts_from_lem, Numbered, refusals_numbered}
 use Rattle.promises.specs.Accounts.{bill_of, stored_in}
 use Rattle.machine.proofs.TraceLaws.{Traced, runs}
 use Rattle.promises.proofs.BillLaws.{run_counts, fetches_of, run_fetches}
@@ -121,7 +121,7 @@ promised x b c r = go (opening_of x b) refl (refusals_numbered x b)
     go : (o : Opening) → opening_of x b ≡ o → Numbered o → Promised x b c o (running o b)
     go (refuse n) q k = record { fetches = omega arith; righted = tt; halted = λ h. absurd (omega (arith, h, k)) }
     go (start e m) q k =
-        let s = starts_from x b e m q in
+        let s = starts_from_lem x b e m q in
         let same : done c ≡ done s.container = sym r ∙ s.is_read in
         let is : c ≡ s.container = cc in
         run_promised x b c e m s is (run_of (suc (e.limit - m.used)) e m) refl (runs (suc (e.limit - m.used)) e m (omega arith))

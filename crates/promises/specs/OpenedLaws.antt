@@ -45,9 +45,9 @@ module _ (x : Input) (b : Lent) (e : Env) (m : Machine) where
   in_list c (en ∷ []) r h = at_entry c en r h
   in_list c (en ∷ f ∷ es) r h = absurd (let z : ◌≡◌ {A = ℕ} 0 1 = cc in omega arith)
 
-  pub starts_from : opening_of x b ≡ start e m → StartedFrom x b e m
+  pub starts_from_lem : opening_of x b ≡ start e m → StartedFrom x b e m
   unfolding opening_of opening_read opening_in
-  starts_from h = go (read_of x.container) refl (passed (sizes_fit b) 44 _ e m h)
+  starts_from_lem h = go (read_of x.container) refl (passed (sizes_fit b) 44 _ e m h)
     where
       go : (r : Read) → read_of x.container ≡ r → opening_read x b r ≡ start e m → StartedFrom x b e m
       go (refused y) q k = absurd (let z : ◌≡◌ {A = ℕ} 0 1 = cc in omega arith)

@@ -51,7 +51,24 @@ fn save<R: Files + Env + AllocGlobal, W: Write, E: Write>(
     Ok(())
 }
 
-// What a call left: lines, and the new store if it halted and one is asked for.
+// The lines of a call's answer, and of what it left if it halted.
+fn lines<W: Write>(
+    out: &mut W,
+    limit: u64,
+    answer: Answer,
+    changes: &[u8],
+    log: &[u8],
+) -> io::Result<()> {
+    report::answer(out, answer, limit)?;
+    let end = answer.end;
+    if end.number != 0 {
+        return Ok(());
+    }
+    report::changes(out, changes, answer.changes as usize)?;
+    report::effects(out, log, answer.log as usize)
+}
+
+// What a call left: lines, and the new store if it halted and one is asked for, also where the lines were not taken.
 fn tell<R: Files + Env + AllocGlobal, W: Write, E: Write>(
     rt: &R,
     out: &mut W,
@@ -63,17 +80,13 @@ fn tell<R: Files + Env + AllocGlobal, W: Write, E: Write>(
     changes: &[u8],
     log: &[u8],
 ) -> io::Result<()> {
-    report::answer(out, answer, limit)?;
+    let told = lines(out, limit, answer, changes, log);
     let end = answer.end;
-    if end.number != 0 {
-        return Ok(());
+    if end.number != 0 || a.out == 0 {
+        return told;
     }
-    report::changes(out, changes, answer.changes as usize)?;
-    report::effects(out, log, answer.log as usize)?;
-    if a.out != 0 {
-        save(rt, out, err, a, store, changes, answer.changes as usize)?;
-    }
-    Ok(())
+    let saved = save(rt, out, err, a, store, changes, answer.changes as usize);
+    told.and(saved)
 }
 
 // With the buffers that a call is lent.

@@ -4,7 +4,7 @@ use std::alloc::Global;
 use std::io;
 use std::io::Write;
 
-// A complaint is one line, and the only thing that is written to standard error.
+// A complaint is one line.
 pub fn complain<E: Write>(err: &mut E, what: &[u8], why: &[u8]) -> io::Result<()> {
     err.write_all(b"settle: ")?;
     err.write_all(what)?;

@@ -44,10 +44,10 @@ stays (Target t) consts w h = refl
 stays Nothing consts w h = refl
 
 module _ (code : List ℕ) (consts : ℕ) (all : Bytes code) (h : 65536 ≤ consts) where
-  walk_from : (t place : ℕ) → (walk t code consts place).starts ≡ starts_from t code place
+  walk_from_lem : (t place : ℕ) → (walk t code consts place).starts ≡ starts_from t code place
   unfolding walk walk_by ended met starts_from starts_by
-  walk_from zero place = refl
-  walk_from (suc t) place = by (leb (length code) place) (decode_at code place) refl (λ next. walk_from t next)
+  walk_from_lem zero place = refl
+  walk_from_lem (suc t) place = by (leb (length code) place) (decode_at code place) refl (λ next. walk_from_lem t next)
     where
       by : (b : Bool) (d : Decoded) → decode_at code place ≡ d → ((next : ℕ) → (walk t code consts next).starts ≡ starts_from t code next) →
           (pick b (ended Whole) (walk_by d consts place (λ next. walk t code consts next))).starts ≡ pick b [] (starts_by d place (λ next. starts_from t code next))
@@ -59,7 +59,7 @@ module _ (code : List ℕ) (consts : ℕ) (all : Bytes code) (h : 65536 ≤ cons
 
   pub walk_starts : (walk_of code consts).starts ≡ starts_of code
   unfolding walk_of starts_of
-  walk_starts = walk_from (length code) 0
+  walk_starts = walk_from_lem (length code) 0
 
   -- a map in which that reading marked what it met
   pub marks_starts : (first before after : List ℕ) → first ≡ before → Marks first (walk_of code consts).starts after → Marks before (starts_of code) after

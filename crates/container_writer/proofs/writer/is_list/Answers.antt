@@ -8,7 +8,7 @@ use lib.ListN.{drop}
 use Rattle.words.specs.Choice.{is_some}
 use Rattle.words.specs.BytesLaws.{rest}
 use Rattle.container_writer.specs.Writer.{begins_entry, slots_in, entries_in}
-use Rattle.container_writer.specs.WriterLaws.{begins, EntryStep, step, is_turn, is_none, is_whole, listed_empty, listed_large, listed_is}
+use Rattle.container_writer.specs.WriterLaws.{begins, EntryStep, step, is_turn, is_none_lem, is_whole, listed_empty, listed_large, listed_is}
 use Rattle.container_writer.proofs.writer.is_list.Goals as goal
 use Rattle.container_writer.proofs.writer.is_list.Goals.{After-slots-n, Else-not-begins_entry}
 
@@ -18,7 +18,7 @@ returns-then-list-eq0 c = sym (listed_empty c.args.list.now c.if-list-eq0.true)
 pub returns-then-not-begins_entry : goal.returns-then-not-begins_entry
 returns-then-not-begins_entry c =
     let list = c.args.list.now in
-    sym (c.loop-left.invariant.1 ∙ is_none c.loop-left.left (drop c.loop-left.at list) c.loop-left-test.true
+    sym (c.loop-left.invariant.1 ∙ is_none_lem c.loop-left.left (drop c.loop-left.at list) c.loop-left-test.true
     (rw (rest c.loop-left.at list) at (sym c.begins_entry.ensures ∙ c.if-not-begins_entry.true)))
 
 entry_here : (c : Else-not-begins_entry) → begins_entry (drop c.loop-left.at c.args.list.now) ≡ true

@@ -45,6 +45,7 @@ fn pays_fresh(c: Counts, writable: &[u8], paid: &[u8], key: &[u8], v: u64, prior
 }
 
 // What a store costs beyond its base price, with n keys dirty.
+#[tactic(auto, using(crate::proofs::Few::few_free))]
 fn store_price(fresh: bool, changes: &[u8], n: usize, key: &[u8]) -> u64
     requires { Table 40 n changes.now × (length key.now ≡ 32) }
     ensures { result ≡ store_price fresh (has (num key.now) (rows 40 n changes.now)) n }

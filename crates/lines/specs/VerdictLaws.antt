@@ -35,6 +35,11 @@ ok_laid d u v w e l r s t q h x y z end =
     let third : t ≤ 85 = omega (arith, second, field_room v w (ascii " entries=") s l.entries t z) in
     laid_next (omega (arith, end.end)) (laid_next (omega arith) (laid_next (omega arith) x y) z) end
 
+-- what is too long has the line of 48
+pub long_is : (s : List ℕ) → 49152 < length s → line_of s ≡ no_line (refusal 48 0)
+unfolding line_of
+long_is s h = rw (lt-leb (length s) 49152 h)
+
 module _ (d u : List ℕ) (r : ℕ) where
   pub line_valid : (v : Verified) (l : Layout) → v ≡ Valid l → Laid d 0 (ok_line l) u r → Laid d 0 (line_for v) u r
   unfolding line_for
@@ -53,8 +58,7 @@ module _ (d u : List ℕ) (r : ℕ) where
   line_refused v x w e = line_no v (verify_error x) w (ap line_for e)
 
   pub line_long : (s : List ℕ) → 49152 < length s → Laid d 0 (no_line (refusal 48 0)) u r → Laid d 0 (line_of s) u r
-  unfolding line_of
-  line_long s h x = rw (lt-leb (length s) 49152 h) x
+  line_long s h x = rw (long_is s h) x
 
   pub line_short : (s : List ℕ) (v : Verified) → length s ≤ 49152 → v ≡ verified_of (read_of s) →
       Laid d 0 (line_for v) u r → Laid d 0 (line_of s) u r

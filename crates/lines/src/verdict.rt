@@ -44,6 +44,7 @@ pub fn line_for(out: &mut [u8], v: Verified) -> usize
 }
 
 // The line for a container's bytes at the front of the output, and how long it is.
+#[tactic(auto, using(crate::specs::VerdictLaws::long_is))]
 pub fn line(s: &[u8], out: &mut [u8]) -> usize
     requires { 96 ≤ length out.old }
     ensures { Laid out.old 0 (line_of s.now) out.new result }

@@ -1,0 +1,2 @@
+-- What functions cite by their attributes.
+pub mod Durable

@@ -23,3 +23,5 @@ module _ (t : Trailer) where
       pub durable_mint : t.word ≡ mint_word → durable_of t ≡ leb 40 t.length
       unfolding durable_of mints
       durable_mint w = rw (ne_eqb t.kind 0 z, eq-eqb t.kind 1 o, eq-eqb t.word mint_word w)
+
+pub ruleset durable_laws = (durable_transfer, durable_other, durable_word, durable_mint)

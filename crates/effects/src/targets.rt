@@ -10,7 +10,7 @@ use crate::trailer::Trailer;
 const MINT: u64 = 0x4D494E5400000000;
 
 // Whether a record has a target.
-#[tactic(auto, using(crate::proofs::Durable::durable_transfer, crate::proofs::Durable::durable_other, crate::proofs::Durable::durable_word, crate::proofs::Durable::durable_mint))]
+#[tactic(auto, using(crate::proofs::Durable::durable_laws))]
 fn durable(t: Trailer) -> bool
     ensures { result ≡ durable_of t }
 {

@@ -15,7 +15,7 @@ entry_of p = entry_found _ p.loop-more.at _ (sym p.in-Done.is ∙ p.entry_at.ens
 checked : (p : After-check_entry) → Answers p.args.map.now (drop p.loop-more.free p.loop-more.seen) p.in-Done.e p.check_entry.result
 checked p = rw (seen_part p.loop-more.seen 256 p.loop-more.free p.loop-more.invariant.0) at p.check_entry.ensures
 
--- ---- the needs
+-- ---- the goals
 pub loop-more-init : goal.loop-more-init
 loop-more-init c = (refl, omega arith, omega arith, check_begins _ _ _ _ _ refl)
 

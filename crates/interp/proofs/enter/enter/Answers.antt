@@ -78,7 +78,7 @@ sizes_end c =
       starts = lens.starts ∙ z.starts;
     }
 
--- ---- the needs
+-- ---- the goals
 pub exec-x-requires : goal.exec-x-requires
 exec-x-requires c =
     starting c.requires (cut_so (goal.at-exec-x-requires c).After-first_run-start) c.begin.ensures c.first_run-start.ensures c.begin.auto.memory

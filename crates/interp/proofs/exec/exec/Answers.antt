@@ -49,7 +49,7 @@ sizes_after c =
       log = k.log ∙ z.log;
     }
 
--- ---- the needs
+-- ---- the goals
 pub loop-end-init : goal.loop-end-init
 loop-end-init c = loop_begins c.new-file.ensures
 

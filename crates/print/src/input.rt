@@ -1,12 +1,15 @@
 // Reading what a program is given.
-ghost use Rattle.std.specs.Prelude.{◌≤◌, length, IfOk};
+ghost use Rattle.std.specs.Prelude.{◌≤◌, ◌<◌, length, take, IfOk};
+ghost use Rattle.std.specs.Io.KnownBytes.{Consumes, IsAtEnd};
 
 use std::io;
 use std::io::Read;
 
 // Reads until the bytes are full or the input ends; how many it put at their front.
 pub fn fill<R: Read>(from: &mut R, t: &mut [u8]) -> io::Result<usize>
-    ensures { IfOk result (λ n. n ≤ length t.new) }
+    ensures bound { IfOk result (λ n. n ≤ length t.new) }
+    ensures bytes { IfOk result (λ n. Consumes (R.remaining from.old) (R.remaining from.new) (take n t.new)) }
+    ensures end { IfOk result (λ n. n < length t.new → IsAtEnd (R.remaining from.new)) }
 {
     let mut done = 0;
     while done < t.len() {

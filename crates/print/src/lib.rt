@@ -4,7 +4,8 @@
 pub mod input;
 pub mod parts;
 
-ghost use Rattle.std.specs.Prelude.{OnOk};
+ghost use Rattle.std.specs.Prelude.{[], ◌∷◌, length, take, nat_le, if◌then◌else◌, OnOk};
+ghost use Rattle.std.specs.Fmt.{decimal};
 ghost use Rattle.std.specs.Io.KnownBytes.{Appends};
 
 use std::io;
@@ -17,7 +18,10 @@ pub fn text<W: Write>(out: &mut W, s: &[u8]) -> io::Result<()>
 }
 
 // The first n bytes of a text that has them.
-pub fn front<W: Write>(out: &mut W, s: &[u8], n: usize) -> io::Result<()> {
+pub fn front<W: Write>(out: &mut W, s: &[u8], n: usize) -> io::Result<()>
+    ensures { OnOk result (Appends (W.contents out.old) (W.contents out.new)
+        (if nat_le n (length s.now) then take n s.now else [])) }
+{
     if n <= s.len() {
         text(out, &s[..n])?;
     }
@@ -25,7 +29,9 @@ pub fn front<W: Write>(out: &mut W, s: &[u8], n: usize) -> io::Result<()> {
 }
 
 // A space and a number.
-pub fn number<W: Write>(out: &mut W, n: u64) -> io::Result<()> {
+pub fn number<W: Write>(out: &mut W, n: u64) -> io::Result<()>
+    ensures { OnOk result (Appends (W.contents out.old) (W.contents out.new) (32 ∷ decimal n)) }
+{
     write!(out, " {n}")
 }
 

@@ -1,7 +1,10 @@
 // Parts of what a program has read.
+ghost use Rattle.std.specs.Prelude.{◌≡◌, ◌-◌, length, take, drop, nat_lt, nat_le, if◌then◌else◌, ◌||◌};
 
 // The bytes between two places; all where there are none such.
-pub fn between(s: &[u8], from: usize, to: usize) -> &[u8] {
+pub fn between(s: &[u8], from: usize, to: usize) -> &[u8]
+    ensures { result.now ≡ (if nat_lt to from || nat_lt (length s.now) to then s.now else take (to - from) (drop from s.now)) }
+{
     if to < from {
         return s;
     }
@@ -12,6 +15,8 @@ pub fn between(s: &[u8], from: usize, to: usize) -> &[u8] {
 }
 
 // The first n bytes; all where there are fewer.
-pub fn first(s: &[u8], n: usize) -> &[u8] {
+pub fn first(s: &[u8], n: usize) -> &[u8]
+    ensures { result.now ≡ (if nat_lt (length s.now) n then s.now else take n s.now) }
+{
     between(s, 0, n)
 }

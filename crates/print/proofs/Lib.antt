@@ -1,0 +1,2 @@
+-- What the reading of an input cites.
+pub mod Consumed

@@ -1,17 +1,16 @@
 -- The change list: the stored keys whose last value differs from the starting value, rising (document 01, Lent input and what is left).
-use Rattle.std.specs.Prelude.{Bool, true, false, List, [], ◌∷◌, ◌++◌, ℕ, ◌*◌, leb, eqb, length, drop}
-use Rattle.std.proofs.Math.Option.{Option, some, none}
+use Rattle.std.specs.Prelude.{Bool, true, false, List, [], ◌∷◌, ◌++◌, ℕ, ◌*◌, leb, eqb, length, drop, Option, Some, None, Result, Ok, Err}
+use Rattle.std.specs.Option.{unwrap_or}
 use Rattle.words.specs.Choice.{pick, both}
+use Rattle.words.specs.Refusals.{refusal}
+use Rattle.words.specs.declared.refusal.Refusal.{Refusal}
 use Rattle.tables.specs.Rows.{Row, rows, bytes_of, lookup}
 use Rattle.tables.specs.Checked.{risingb, checked_of}
-use Rattle.tables.specs.declared.check.Checked.{Checked}
-use Rattle.tables.specs.declared.check.Checked.TheVariants.{Whole, Bad}
-use Rattle.changes.specs.declared.ChangeList.{ChangeList}
-use Rattle.changes.specs.declared.ChangeList.TheVariants as answer
+use Rattle.changes.specs.declared.ChangeError.{ChangeError}
 
+-- a value, or what stands in for it
 unfoldable pub or_else : Option ℕ → ℕ → ℕ
-or_else none v = v
-or_else (some u) v = u
+or_else o v = unwrap_or o v
 
 -- a key's starting value: the store's, else the loader's, else 0
 unfoldable pub start_of : (store loader : List Row) → ℕ → ℕ
@@ -36,44 +35,47 @@ lent changes count store has_loader loader =
     record { changes = changes; count = count; store = store; has_loader = has_loader; loader = loader }
 
 -- the rows of a whole table, if it is one
-unfoldable pub rows_of : Checked → List ℕ → Option (List Row)
-rows_of (Whole n) t = some (rows 40 n t)
-rows_of Bad t = none
+unfoldable pub rows_of : Option ℕ → List ℕ → Option (List Row)
+rows_of (Some n) t = Some (rows 40 n t)
+rows_of None t = None
 
 unfoldable pub checked_loader : Bool → List ℕ → Option (List Row)
 checked_loader true t = rows_of (checked_of 40 t) t
-checked_loader false t = some []
+checked_loader false t = Some []
 
 -- the counted rows, where they stand and rise
 unfoldable pub counted_rows : List ℕ → ℕ → Option (List Row)
-counted_rows t n = pick (both (leb (n * 40) (length t)) (risingb 0 (rows 40 n t))) (some (rows 40 n t)) none
+counted_rows t n = pick (both (leb (n * 40) (length t)) (risingb 0 (rows 40 n t))) (Some (rows 40 n t)) None
 
 unfoldable pub list_from : (changes store loader : Option (List Row)) → Option (List Row)
-list_from (some cs) (some ss) (some ls) = some (changed ss ls cs)
-list_from (some cs) (some ss) none = none
-list_from (some cs) none ls = none
-list_from none ss ls = none
+list_from (Some cs) (Some ss) (Some ls) = Some (changed ss ls cs)
+list_from (Some cs) (Some ss) None = None
+list_from (Some cs) None ls = None
+list_from None ss ls = None
 
 -- the change list, or none where a table is bad (45)
 unfoldable pub list_of : ChangesLent → Option (List Row)
 list_of l = list_from (counted_rows l.changes l.count) (rows_of (checked_of 40 l.store) l.store) (checked_loader l.has_loader l.loader)
 
 -- 45, then 48 for an output that is too short
-unfoldable pub answer_of : Option (List Row) → (out : List ℕ) → ChangeList
-answer_of none out = answer.BadTable
-answer_of (some rs) out = pick (leb (length rs * 40) (length out)) (answer.Rows (length rs)) answer.NoRoom
+unfoldable pub answer_of : Option (List Row) → (out : List ℕ) → Result ℕ ChangeError
+answer_of None out = Err ChangeError.BadTable
+answer_of (Some rs) out = pick (leb (length rs * 40) (length out)) (Ok (length rs)) (Err ChangeError.NoRoom)
 
-unfoldable pub list_output_by : ChangeList → Option (List Row) → (out : List ℕ) → List ℕ
-list_output_by (answer.Rows n) (some rs) out = bytes_of 40 rs ++ drop (n * 40) out
-list_output_by (answer.Rows n) none out = out
-list_output_by answer.BadTable rs out = out
-list_output_by answer.NoRoom rs out = out
+unfoldable pub list_output_by : Result ℕ ChangeError → Option (List Row) → (out : List ℕ) → List ℕ
+list_output_by (Ok n) (Some rs) out = bytes_of 40 rs ++ drop (n * 40) out
+list_output_by (Ok n) None out = out
+list_output_by (Err e) rs out = out
 
 unfoldable pub list_output : Option (List Row) → (out : List ℕ) → List ℕ
 list_output rs out = list_output_by (answer_of rs out) rs out
 
+-- document 01's number of each error
+abbrev pub change_error : ChangeError → Refusal
+change_error ChangeError.BadTable = refusal 45 0
+change_error ChangeError.NoRoom = refusal 48 0
+
 -- document 01's number of the answer
-abbrev pub change_list_number : ChangeList → ℕ
-change_list_number (answer.Rows n) = 0
-change_list_number answer.BadTable = 45
-change_list_number answer.NoRoom = 48
+abbrev pub change_list_number : Result ℕ ChangeError → ℕ
+change_list_number (Ok n) = 0
+change_list_number (Err e) = (change_error e).number

@@ -1,72 +1,47 @@
--- The rows of 40 bytes from the i-th on, and which of them changed. Assumes nothing.
-use Rattle.std.specs.Prelude.{◌≡◌, Bool, List, [], ◌∷◌, ◌++◌, length, take}
-use Rattle.std.proofs.Math.Path.{sym, ap}
-use Rattle.std.proofs.Common.{◌∙◌, take-append-drop, length-drop, length-take-le}
-use Rattle.std.proofs.Math.Option.{Option, some, none}
-use Prim.Native.Nat.{ℕ, suc, ◌+◌, ◌*◌, ◌-◌, ◌≤◌, ◌<◌}
-use native.Mathlib.Omega.{arith}
-use Rattle.std.proofs.Math.Nat.{add-sub_cancel_left}
-use Rattle.std.proofs.Math.ListN.{drop}
-use Rattle.std.proofs.Math.Seq.{drop-drop}
+-- The rows of 40 bytes that are left, and which of them changed. Assumes nothing.
+use Rattle.std.specs.Prelude.{◌≡◌, Bool, List, [], ◌∷◌, ◌++◌, ℕ, suc, ◌*◌, ◌/◌, ◌≤◌, ◌<◌, length, take, drop}
+use Rattle.std.proofs.Common.{sym, ap, ◌∙◌, arith, take-append-drop, length-append, length-take-le, drop_at}
+use Rattle.std.proofs.Math.Nat.{mul-div_left}
 use Rattle.words.specs.Choice.{pick}
 use Rattle.tables.specs.Rows.{Row, row_in, rows}
-use Rattle.tables.specs.Answers.{got_of}
-use Rattle.tables.specs.LayoutLaws.{row_of_append}
-use Rattle.tables.specs.declared.rows.Got.TheVariants.{Value, Nothing}
-use Rattle.changes.specs.ChangeList.{or_else, changed}
+use Rattle.tables.specs.LayoutLaws.{row_of_append, rows_front}
+use Rattle.changes.specs.ChangeList.{changed}
 use Rattle.changes.specs.Changed.{sameb}
 
--- a value that was looked up, and what stands in where there is none
-pub got_value : (o : Option ℕ) (v d : ℕ) → got_of o ≡ Value v → v ≡ or_else o d
-unfolding got_of or_else
-got_value none v d e = let z : ◌≡◌ {A = ℕ} 0 1 = cc in absurd (omega arith)
-got_value (some u) v d e = cc
+-- the whole rows of bytes
+abbrev pub rows_in : List ℕ → List Row
+rows_in r = rows 40 (length r / 40) r
 
-pub got_nothing : (o : Option ℕ) (v d : ℕ) → got_of o ≡ Nothing → v ≡ d → v ≡ or_else o d
-unfolding got_of or_else
-got_nothing none v d e p = p
-got_nothing (some u) v d e p = let z : ◌≡◌ {A = ℕ} 0 1 = cc in absurd (omega arith)
+-- the first n rows are those of the bytes that they fill
+pub rows_taken : (n : ℕ) (t : List ℕ) → n * 40 ≤ length t → rows_in (take (n * 40) t) ≡ rows 40 n t
+rows_taken n t h =
+    let l : length (take (n * 40) t) ≡ n * 40 = length-take-le (n * 40) t h in
+    let d : length (take (n * 40) t) / 40 ≡ n = ap (λ (m : ℕ). m / 40) l ∙ mul-div_left n (omega arith) in
+    ap (λ (m : ℕ). rows 40 m (take (n * 40) t)) d
+    ∙ sym (rows_front 40 n (take (n * 40) t) (drop (n * 40) t) (omega arith) (omega arith)) ∙ ap (rows 40 n) (take-append-drop (n * 40) t)
 
--- the bytes of row i, as they are lent on
-abbrev pub row_part : List ℕ → ℕ → List ℕ
-row_part t i = take (i * 40 + 40 - i * 40) (drop (i * 40) t)
+-- less than a row is left
+pub rows_none : (r : List ℕ) → length r < 40 → rows_in r ≡ []
+unfolding rows
+rows_none r h = let q : length r / 40 ≡ 0 = omega arith in rw q
 
-pub part_is : (t : List ℕ) (i : ℕ) → row_part t i ≡ take 40 (drop (i * 40) t)
-part_is t i = ap (λ (m : ℕ). take m (drop (i * 40) t)) (add-sub_cancel_left (i * 40) 40)
-
--- row i, and the rows after it
-module _ (t : List ℕ) (n i : ℕ) (l : i < n) (h : n * 40 ≤ length t) where
-  pub part_length : length (row_part t i) ≡ 40
-  part_length = ap length (part_is t i) ∙ length-take-le 40 (drop (i * 40) t) (omega (arith, length-drop (i * 40) t))
-
-  pub row_part_lem : row_in 40 (row_part t i) ≡ row_in 40 (drop (i * 40) t)
-  row_part_lem =
-      let d : List ℕ = drop (i * 40) t in
-      sym (row_of_append 40 (row_part t i) (drop 40 d) (omega arith) (omega (arith, part_length)))
-      ∙ ap (λ (a : List ℕ). row_in 40 (a ++ drop 40 d)) (part_is t i) ∙ ap (row_in 40) (take-append-drop 40 d)
-
-  pub next_rows : rows 40 (n - i) (drop (i * 40) t) ≡ row_in 40 (row_part t i) ∷ rows 40 (n - (i + 1)) (drop ((i + 1) * 40) t)
+-- of the bytes r that are left, x are the first row
+module _ (r x t : List ℕ) (e : r ≡ x ++ t) (l : length x ≡ 40) where
+  pub next_rows : rows_in r ≡ row_in 40 x ∷ rows_in t
   unfolding rows
   next_rows =
-      let m : n - i ≡ suc (n - (i + 1)) = omega arith in
-      let e : i * 40 + 40 ≡ (i + 1) * 40 = omega arith in
-      let d : drop 40 (drop (i * 40) t) ≡ drop ((i + 1) * 40) t = drop-drop 40 (i * 40) t ∙ ap (λ (k : ℕ). drop k t) e in
-      ap (λ (k : ℕ). rows 40 k (drop (i * 40) t)) m ∙ (λ k. sym row_part_lem k ∷ rows 40 (n - (i + 1)) (d k))
-
--- what changed of the n rows of t, from row i on
-abbrev pub left : (ss ls : List Row) (t : List ℕ) (n i : ℕ) → List Row
-left ss ls t n i = changed ss ls (rows 40 (n - i) (drop (i * 40) t))
-
-module _ (ss ls : List Row) (t : List ℕ) (n i : ℕ) where
-  pub left_all : i ≡ 0 → left ss ls t n i ≡ changed ss ls (rows 40 n t)
-  left_all e = rw e (let q : n - 0 ≡ n = omega arith in ap (λ (m : ℕ). changed ss ls (rows 40 m t)) q)
-
-  pub left_none : n ≤ i → left ss ls t n i ≡ []
-  unfolding changed rows
-  left_none h = let q : n - i ≡ 0 = omega arith in ap (λ (m : ℕ). changed ss ls (rows 40 m (drop (i * 40) t))) q
+      let n : length r / 40 ≡ suc (length t / 40) = omega (arith, ap length e, length-append x t) in
+      let h : row_in 40 r ≡ row_in 40 x = ap (row_in 40) e ∙ row_of_append 40 x t (omega arith) (omega arith) in
+      let d : drop 40 r ≡ t = ap (drop 40) e ∙ drop_at x t 40 l in
+      rw (n, h, d)
 
   -- a row with its starting value is left out, another is listed
-  pub left_by_lem : i < n → n * 40 ≤ length t → (b : Bool) → b ≡ sameb ss ls (row_in 40 (row_part t i))
-      → left ss ls t n i ≡ pick b (left ss ls t n (i + 1)) (row_in 40 (row_part t i) ∷ left ss ls t n (i + 1))
+  pub left_by_lem : (ss ls : List Row) (b : Bool) → b ≡ sameb ss ls (row_in 40 x)
+      → changed ss ls (rows_in r) ≡ pick b (changed ss ls (rows_in t)) (row_in 40 x ∷ changed ss ls (rows_in t))
   unfolding changed
-  left_by_lem l h b e = ap (changed ss ls) (next_rows t n i l h) ∙ rw (← e)
+  left_by_lem ss ls b q = ap (changed ss ls) next_rows ∙ rw (← q)
+
+-- nothing is left
+pub left_none : (ss ls : List Row) (r : List ℕ) → length r < 40 → changed ss ls (rows_in r) ≡ []
+unfolding changed
+left_none ss ls r h = ap (changed ss ls) (rows_none r h)

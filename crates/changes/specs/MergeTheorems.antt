@@ -1,7 +1,6 @@
 -- The new store rises, and each key has its stored value, else the store's. Assumes nothing.
-use Rattle.std.specs.Prelude.{◌≡◌, refl, List, [], ◌∷◌, ℕ, suc, ◌<◌}
+use Rattle.std.specs.Prelude.{◌≡◌, refl, List, [], ◌∷◌, ℕ, suc, ◌<◌, Option, Some, None}
 use Rattle.std.proofs.Common.{sym, ap, ◌∙◌, arith}
-use Rattle.std.proofs.Math.Option.{Option, some, none}
 use Rattle.tables.specs.Rows.{Row, Rising, insert, lookup}
 use Rattle.tables.specs.OrderLaws.{order_greater, Tri, tri, below, same, above}
 use Rattle.tables.specs.RowsTheorems.{rising_insert, lookup_insert_same, lookup_insert_other}
@@ -14,10 +13,10 @@ merged_rises (c ∷ cs) ss h = merged_rises cs (insert c ss) (rising_insert 0 c 
 
 -- the first value, else the second
 unfoldable pub or_then : Option ℕ → Option ℕ → Option ℕ
-or_then (some v) o = some v
-or_then none o = o
+or_then (Some v) o = Some v
+or_then None o = o
 
-absent : (lo k : ℕ) (cs : List Row) → k < lo → Rising lo cs → lookup k cs ≡ none
+absent : (lo k : ℕ) (cs : List Row) → k < lo → Rising lo cs → lookup k cs ≡ None
 unfolding lookup
 absent lo k [] h s = refl
 absent lo k (c ∷ cs) h s = rw (order_greater c.key k (omega arith))
@@ -31,8 +30,8 @@ merged_lookup lo k (c ∷ cs) ss s = go (merged_lookup (suc c.key) k cs (insert 
         → lookup k (merged cs (insert c ss)) ≡ or_then (lookup k (c ∷ cs)) (lookup k ss)
     go ih (below h e) = rw e (ih ∙ ap (or_then (lookup k cs)) (lookup_insert_other k c ss (λ q. omega arith)))
     go ih (same h e) =
-        let a : lookup k cs ≡ none = absent (suc c.key) k cs (omega arith) s.1 in
+        let a : lookup k cs ≡ None = absent (suc c.key) k cs (omega arith) s.1 in
         rw e (ih ∙ rw a (ap (λ (j : ℕ). lookup j (insert c ss)) (sym h) ∙ lookup_insert_same c ss))
     go ih (above h e) =
-        let a : lookup k cs ≡ none = absent (suc c.key) k cs (omega arith) s.1 in
+        let a : lookup k cs ≡ None = absent (suc c.key) k cs (omega arith) s.1 in
         rw e (ih ∙ rw a (lookup_insert_other k c ss (λ q. omega arith)))

@@ -3,130 +3,111 @@
 
 pub mod merge;
 
-ghost use Rattle.std.specs.Prelude.{◌≡◌, ◌*◌, ◌≤◌, length};
-ghost use Rattle.std.proofs.Math.Option.{some};
+ghost use Rattle.std.specs.Prelude.{◌≡◌, ◌*◌, ◌≤◌, length, MatchOption};
 ghost use Rattle.words.specs.Bytes.{num};
 ghost use Rattle.tables.specs.Rows.{row_in, rows};
-ghost use Rattle.tables.specs.Table.{Table};
-ghost use Rattle.changes.specs.ChangeList.{start_of, lent, list_of, answer_of, list_output};
+ghost use Rattle.tables.specs.Content.{content};
+ghost use Rattle.changes.specs.ChangeList.{change_error, start_of, lent, counted_rows, list_of, answer_of, list_output};
 ghost use Rattle.changes.specs.Changed.{sameb, changed_in, written};
 
-use tables::check::Checked;
-use tables::rows::Got;
+use tables::rows::Rows;
+use words::refusal::Refusal;
 
-#[derive(Clone, Copy)]
-pub enum ChangeList {
-    Rows(usize),
+// Why there is no list, or no new store.
+#[derive(Clone, Copy, Debug, PartialEq, Eq)]
+pub enum ChangeError {
     BadTable,
     NoRoom,
 }
 
-// A key's starting value: the store's, else the loader's, else 0.
-fn start(store: &[u8], ns: usize, loader: &[u8], nl: usize, key: &[u8]) -> u64
-    requires { Table 40 ns store.now × Table 40 nl loader.now × (length key.now ≡ 32) }
-    ensures { result ≡ start_of (rows 40 ns store.now) (rows 40 nl loader.now) (num key.now) }
-{
-    let s = tables::rows::get(store, ns, key);
-    match s {
-        Got::Value(v) => v,
-        Got::Nothing => {
-            let l = tables::rows::get(loader, nl, key);
-            match l {
-                Got::Value(v) => v,
-                Got::Nothing => 0,
-            }
+impl From<ChangeError> for Refusal {
+    ghost from_gives = { λ e r. r ≡ change_error e };
+
+    fn from(e: ChangeError) -> Refusal {
+        match e {
+            ChangeError::BadTable => Refusal::numbered(45),
+            ChangeError::NoRoom => Refusal::numbered(48),
         }
     }
 }
 
-// Whether a row's value is its key's starting value.
-fn unchanged(row: &[u8], store: &[u8], ns: usize, loader: &[u8], nl: usize) -> bool
-    requires { Table 40 ns store.now × Table 40 nl loader.now × (length row.now ≡ 40) }
-    ensures { result ≡ sameb (rows 40 ns store.now) (rows 40 nl loader.now) (row_in 40 row.now) }
+// A key's starting value: the store's, else the loader's, else 0.
+#[tactic(auto, unfolding(crate::specs::ChangeList::start_of, crate::specs::ChangeList::or_else))]
+fn start(store: Rows<40>, loader: Rows<40>, key: &[u8; 32]) -> u64
+    ensures { result ≡ start_of (content store.entry) (content loader.entry) (num key.now) }
 {
-    let v = start(store, ns, loader, nl, &row[..32]);
+    if let Some(v) = store.get(key) {
+        return v;
+    }
+    loader.get(key).unwrap_or(0)
+}
+
+// Whether a row's value is its key's starting value.
+fn unchanged(row: &[u8], store: Rows<40>, loader: Rows<40>) -> bool
+    requires { length row.now ≡ 40 }
+    ensures { result ≡ sameb (content store.entry) (content loader.entry) (row_in 40 row.now) }
+{
+    let v = start(store, loader, tables::rows::key_of(row));
     words::bytes::read(row, 32, 8) == v
 }
 
-// How many of the first n rows changed.
-fn count_changed(
-    changes: &[u8],
-    n: usize,
-    store: &[u8],
-    ns: usize,
-    loader: &[u8],
-    nl: usize,
-) -> usize
-    requires { Table 40 ns store.now × Table 40 nl loader.now × (n * 40 ≤ length changes.now) }
-    ensures { result ≡ length (changed_in changes.now n store.now ns loader.now nl) }
+// How many of the rows changed.
+fn count_changed(changes: Rows<40>, store: Rows<40>, loader: Rows<40>) -> usize
+    ensures { result ≡ length (changed_in changes.entry store.entry loader.entry) }
 {
     let mut k = 0;
-    let mut i = 0;
-    while i < n {
-        let at = i * 40;
-        let end = at + 40;
-        let same = unchanged(&changes[at..end], store, ns, loader, nl);
-        i += 1;
-        if same {
-            continue;
+    for row in changes.bytes[..changes.count * 40].chunks_exact(40) {
+        if !unchanged(row, store, loader) {
+            k += 1;
         }
-        k += 1;
     }
     k
 }
 
-// Writes those of the first n rows that changed to the front of the output.
-fn write_changed(
-    changes: &[u8],
-    n: usize,
-    store: &[u8],
-    ns: usize,
-    loader: &[u8],
-    nl: usize,
-    out: &mut [u8],
-)
-    requires { Table 40 ns store.now × Table 40 nl loader.now × (n * 40 ≤ length changes.now) ×
-        (length (changed_in changes.now n store.now ns loader.now nl) * 40 ≤ length out.old) }
-    ensures { out.new ≡
-        written (changed_in changes.now n store.now ns loader.now nl) out.old }
+// Writes those of the rows that changed to the front of the output.
+fn write_changed(changes: Rows<40>, store: Rows<40>, loader: Rows<40>, out: &mut [u8])
+    requires { length (changed_in changes store loader) * 40 ≤ length out.old }
+    ensures { out.new ≡ written (changed_in changes.entry store.entry loader.entry) out.old }
 {
     let mut to = 0;
-    let mut i = 0;
-    while i < n {
-        let at = i * 40;
-        let end = at + 40;
-        let same = unchanged(&changes[at..end], store, ns, loader, nl);
-        i += 1;
-        if same {
-            continue;
+    for row in changes.bytes[..changes.count * 40].chunks_exact(40) {
+        if !unchanged(row, store, loader) {
+            words::bytes::copy_in(out, to, row);
+            to += 40;
         }
-        words::bytes::copy_in(out, to, &changes[at..end]);
-        to += 40;
     }
 }
 
 // The list over checked tables, if the output has room for it.
 fn list(
-    changes: &[u8],
-    n: usize,
-    store: &[u8],
-    ns: usize,
-    loader: &[u8],
-    nl: usize,
+    changes: Rows<40>,
+    store: Rows<40>,
+    loader: Rows<40>,
     out: &mut [u8],
-) -> ChangeList
-    requires { Table 40 ns store.now × Table 40 nl loader.now × (n * 40 ≤ length changes.now) }
+) -> Result<usize, ChangeError>
     ensures answer { result ≡
-        answer_of (some (changed_in changes.now n store.now ns loader.now nl)) out.old }
+        answer_of (Some (changed_in changes.entry store.entry loader.entry)) out.old }
     ensures output { out.new ≡
-        list_output (some (changed_in changes.now n store.now ns loader.now nl)) out.old }
+        list_output (Some (changed_in changes.entry store.entry loader.entry)) out.old }
 {
-    let k = count_changed(changes, n, store, ns, loader, nl);
+    let k = count_changed(changes, store, loader);
     if out.len() / 40 < k {
-        return ChangeList::NoRoom;
+        return Err(ChangeError::NoRoom);
     }
-    write_changed(changes, n, store, ns, loader, nl, out);
-    ChangeList::Rows(k)
+    write_changed(changes, store, loader, out);
+    Ok(k)
+}
+
+// The counted rows, if they stand and rise.
+pub(crate) fn counted(bytes: &[u8], count: usize) -> Option<Rows<'_, 40>>
+    ensures { MatchOption result (counted_rows bytes.now count ≡ None)
+        (λ t. (t.bytes.now ≡ bytes.now) × (t.count ≡ count)) }
+{
+    if count <= bytes.len() / 40 && tables::check::rising(bytes, count, 40) {
+        Some(Rows { bytes, count })
+    } else {
+        None
+    }
 }
 
 // The stored keys whose last value differs from the starting value, rising, with their last values.
@@ -137,27 +118,14 @@ pub fn change_list(
     has_loader: bool,
     loader: &[u8],
     out: &mut [u8],
-) -> ChangeList
+) -> Result<usize, ChangeError>
     ensures answer { result ≡
         answer_of (list_of (lent changes.now count store.now has_loader loader.now)) out.old }
     ensures output { out.new ≡
         list_output (list_of (lent changes.now count store.now has_loader loader.now)) out.old }
 {
-    if changes.len() / 40 < count {
-        return ChangeList::BadTable;
-    }
-    if !tables::check::rising(changes, count, 40) {
-        return ChangeList::BadTable;
-    }
-    let s = tables::check::check(store, 40);
-    match s {
-        Checked::Bad => ChangeList::BadTable,
-        Checked::Whole(ns) => {
-            let l = tables::check::check_if(has_loader, loader, 40);
-            match l {
-                Checked::Bad => ChangeList::BadTable,
-                Checked::Whole(nl) => list(changes, count, store, ns, loader, nl, out),
-            }
-        }
-    }
+    let changes = counted(changes, count).ok_or(ChangeError::BadTable)?;
+    let store = Rows::check(store).ok_or(ChangeError::BadTable)?;
+    let loader = Rows::check_if(has_loader, loader).ok_or(ChangeError::BadTable)?;
+    list(changes, store, loader, out)
 }

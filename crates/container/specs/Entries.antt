@@ -1,18 +1,10 @@
 -- Where a counted list and an entry stand, counted from a place (document 01, Container).
-use Rattle.std.specs.Prelude.{List, [], ◌∷◌, ℕ, ◌+◌, ◌*◌, eqb, length, take, drop}
+use Rattle.std.specs.Prelude.{List, [], ◌∷◌, ℕ, ◌+◌, ◌*◌, eqb, length, take, drop, Option, Some, None}
 use Rattle.words.specs.Choice.{pick}
 use Rattle.container.specs.Container.{Entry}
 use Rattle.container.specs.Reader.{Parsed, short, read}
 use Rattle.container.specs.declared.entries.Slots.{Slots}
-use Rattle.container.specs.declared.entries.CountedRead.{CountedRead}
-use Rattle.container.specs.declared.entries.CountedRead.TheVariants as counted
 use Rattle.container.specs.declared.entries.EntryLayout.{EntryLayout}
-use Rattle.container.specs.declared.entries.EntryRead.{EntryRead}
-use Rattle.container.specs.declared.entries.EntryRead.TheVariants as entry
-use Rattle.container.specs.declared.entries.EntriesEnd.{EntriesEnd}
-use Rattle.container.specs.declared.entries.EntriesEnd.TheVariants as end
-use Rattle.container.specs.declared.offsets.FirstMatch.{FirstMatch}
-use Rattle.container.specs.declared.offsets.FirstMatch.TheVariants as found
 
 abbrev pub slots : (first count : ℕ) → Slots
 slots first count = record { at = first; count = count }
@@ -22,9 +14,9 @@ abbrev pub slot_bytes : List ℕ → Slots → List ℕ
 slot_bytes s l = take (l.count * 8) (drop l.at s)
 
 -- the list at a place: its words stand after four bytes of count
-unfoldable pub list_at : ℕ → Parsed (List ℕ) → CountedRead
-list_at at short = counted.Short
-list_at at (read ws t) = counted.Done (slots (at + 4) (length ws)) (at + 4 + length ws * 8)
+unfoldable pub list_at : ℕ → Parsed (List ℕ) → Option (Slots × ℕ)
+list_at at short = None
+list_at at (read ws t) = Some (slots (at + 4) (length ws), at + 4 + length ws * 8)
 
 -- an entry at a place: selector and offset take eight bytes, then list stands after list
 unfoldable pub placed : ℕ → Entry → EntryLayout
@@ -50,20 +42,20 @@ placed at e =
 abbrev pub slots_of : EntryLayout → ℕ
 slots_of l = l.reads.count + l.writes.count + l.keyed_reads.count + l.keyed_writes.count
 
-unfoldable pub entry_at : ℕ → Parsed Entry → EntryRead
-entry_at at short = entry.Short
-entry_at at (read e t) = entry.Done (placed at e)
+unfoldable pub entry_at : ℕ → Parsed Entry → Option EntryLayout
+entry_at at short = None
+entry_at at (read e t) = Some (placed at e)
 
 -- the place after entries that stand from a place on
 unfoldable pub ends : ℕ → List Entry → ℕ
 ends at [] = at
 ends at (e ∷ es) = ends (placed at e).end es
 
-unfoldable pub entries_end : ℕ → Parsed (List Entry) → EntriesEnd
-entries_end at short = end.Short
-entries_end at (read es t) = end.At (ends at es)
+unfoldable pub entries_end : ℕ → Parsed (List Entry) → Option ℕ
+entries_end at short = None
+entries_end at (read es t) = Some (ends at es)
 
 -- the first entry with a selector, of entries that stand from a place on
-unfoldable pub found_in : (selector at : ℕ) → List Entry → FirstMatch
-found_in selector at [] = found.Missing
-found_in selector at (e ∷ es) = pick (eqb e.selector selector) (found.At (placed at e)) (found_in selector (placed at e).end es)
+unfoldable pub found_in : (selector at : ℕ) → List Entry → Option EntryLayout
+found_in selector at [] = None
+found_in selector at (e ∷ es) = pick (eqb e.selector selector) (Some (placed at e)) (found_in selector (placed at e).end es)

@@ -1,12 +1,11 @@
 -- What an entry or a counted list that was read tells of its bytes. Assumes nothing.
-use Rattle.std.specs.Prelude.{◌≡◌, refl, Bool, true, false, List, ℕ, ◌+◌, ◌-◌, ◌*◌, ◌≤◌, ◌<◌, leb, length, drop}
+use Rattle.std.specs.Prelude.{◌≡◌, refl, Bool, true, false, List, ℕ, ◌+◌, ◌-◌, ◌*◌, ◌≤◌, ◌<◌, leb, length, drop, Some, None}
 use Rattle.std.proofs.Common.{sym, ap, ◌∙◌, arith, leb-true, leb-false}
 use Rattle.container.specs.Container.{Entry}
 use Rattle.container.specs.Reader.{Parsed, short, read, and_then, counted, entry}
 use Rattle.container.specs.Entries.{slots, list_at, placed, entry_at}
 use Rattle.container.specs.EntryLaws.{list_told, entry_none, lists, head}
 use Rattle.container.specs.declared.entries.EntryLayout.{EntryLayout}
-use Rattle.container.specs.declared.entries.EntryRead.TheVariants.{Done, Short}
 
 -- where two readings in a row give something, each does
 pub record Both {A B : Type 0} (p : Parsed A) (f : A → List ℕ → Parsed B) (b : B) (t : List ℕ) : Type 0 where
@@ -83,21 +82,21 @@ pub record EntryFound (s : List ℕ) (at : ℕ) (l : EntryLayout) : Type 0 where
   pub on : at < l.end
   pub within : l.end ≤ length s
 
-pub entry_found : (s : List ℕ) (at : ℕ) (l : EntryLayout) → Done l ≡ entry_at at (entry (drop at s)) → EntryFound s at l
+pub entry_found : (s : List ℕ) (at : ℕ) (l : EntryLayout) → Some l ≡ entry_at at (entry (drop at s)) → EntryFound s at l
 unfolding entry_at
 entry_found s at l h = by (entry (drop at s)) refl h
   where
-    by : (p : Parsed Entry) → entry (drop at s) ≡ p → Done l ≡ entry_at at p → EntryFound s at l
+    by : (p : Parsed Entry) → entry (drop at s) ≡ p → Some l ≡ entry_at at p → EntryFound s at l
     by short e k = absurd (let z : ◌≡◌ {A = ℕ} 0 1 = cc in omega arith)
     by (read f t) e k =
         let r = entry_told s at f t e in
         let d : l ≡ placed at f = cc in
         record { found = f; is = rw (d, ← r.rest) e; layout = d; on = rw d (omega (arith, r.on)); within = rw d r.within }
 
-pub entry_short : (s : List ℕ) (at : ℕ) → Short ≡ entry_at at (entry (drop at s)) → entry (drop at s) ≡ short
+pub entry_short : (s : List ℕ) (at : ℕ) → None ≡ entry_at at (entry (drop at s)) → entry (drop at s) ≡ short
 unfolding entry_at
 entry_short s at h = by (entry (drop at s)) refl h
   where
-    by : (p : Parsed Entry) → entry (drop at s) ≡ p → Short ≡ entry_at at p → entry (drop at s) ≡ short
+    by : (p : Parsed Entry) → entry (drop at s) ≡ p → None ≡ entry_at at p → entry (drop at s) ≡ short
     by short e k = e
     by (read f t) e k = absurd (let z : ◌≡◌ {A = ℕ} 0 1 = cc in omega arith)

@@ -1,5 +1,5 @@
 -- What a container that was read tells of its bytes. Assumes nothing.
-use Rattle.std.specs.Prelude.{◌≡◌, refl, Bool, true, false, List, [], ◌∷◌, ℕ, ◌+◌, ◌-◌, ◌*◌, ◌≤◌, leb, eqb, length, take, drop}
+use Rattle.std.specs.Prelude.{◌≡◌, refl, Bool, true, false, List, [], ◌∷◌, ℕ, ◌+◌, ◌-◌, ◌*◌, ◌≤◌, leb, eqb, length, take, drop, Ok, Err}
 use Rattle.std.proofs.Common.{sym, ap, ◌∙◌, arith, length-drop, length-take-le, leb-true, leb-false, eqb-true}
 use Rattle.std.proofs.Math.Nat.{add-sub_cancel_left}
 use Rattle.words.specs.Choice.{pick}
@@ -13,7 +13,6 @@ use Rattle.container.specs.EntriesLaws.{entries_told}
 use Rattle.container.specs.declared.reader.Layout.{Layout}
 use Rattle.container.specs.declared.reader.ReadError.{ReadError}
 use Rattle.container.specs.declared.reader.ReadError.TheVariants.{BadTag, Short}
-use Rattle.container.specs.declared.reader.Reading.TheVariants.{Done, Refused}
 
 -- bytes that were read at a place
 pub record PartTold (s : List ℕ) (at n : ℕ) (b t : List ℕ) : Type 0 where
@@ -109,19 +108,19 @@ read_done s c h = by (leb 4 (length s)) (eqb (num (take 4 s)) tag) refl refl (co
     by true false q r p e k = absurd (let z : ◌≡◌ {A = ℕ} 0 1 = cc in omega arith)
     by false y q r p e k = absurd (let z : ◌≡◌ {A = ℕ} 0 1 = cc in omega arith)
 
-pub read_told : (s : List ℕ) (l : Layout) → Done l ≡ reading_of (read_of s) → ReadTold s l
+pub read_told : (s : List ℕ) (l : Layout) → Ok l ≡ reading_of (read_of s) → ReadTold s l
 unfolding reading_of
 read_told s l h = by (read_of s) refl h
   where
-    by : (r : Read) → read_of s ≡ r → Done l ≡ reading_of r → ReadTold s l
+    by : (r : Read) → read_of s ≡ r → Ok l ≡ reading_of r → ReadTold s l
     by (done c) e k = record { found = c; is = e; layout = cc; body = body_told s c [] (read_done s c e).2 }
     by (refused x) e k = absurd (let z : ◌≡◌ {A = ℕ} 0 1 = cc in omega arith)
 
-pub refused_told : (s : List ℕ) (x : ReadError) → Refused x ≡ reading_of (read_of s) → read_of s ≡ refused x
+pub refused_told : (s : List ℕ) (x : ReadError) → Err x ≡ reading_of (read_of s) → read_of s ≡ refused x
 unfolding reading_of
 refused_told s x h = by (read_of s) refl h
   where
-    by : (r : Read) → read_of s ≡ r → Refused x ≡ reading_of r → read_of s ≡ refused x
+    by : (r : Read) → read_of s ≡ r → Err x ≡ reading_of r → read_of s ≡ refused x
     by (done c) e k = absurd (let z : ◌≡◌ {A = ℕ} 0 1 = cc in omega arith)
     by (refused y) e k = let a : x ≡ y = cc in rw a e
 

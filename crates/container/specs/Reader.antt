@@ -1,13 +1,11 @@
 -- Reading a container from bytes, and what is refused: 41 a wrong tag, 42 bytes that end too soon, 43 bytes left over (document 01).
-use Rattle.std.specs.Prelude.{List, [], ◌∷◌, ℕ, zero, suc, ◌+◌, ◌*◌, leb, eqb, length, take, drop}
+use Rattle.std.specs.Prelude.{List, [], ◌∷◌, ℕ, zero, suc, ◌+◌, ◌*◌, leb, eqb, length, take, drop, Result, Ok, Err}
 use Rattle.words.specs.Choice.{pick}
 use Rattle.words.specs.Bytes.{num, words_of}
 use Rattle.container.specs.Container.{Entry, Container, tag}
 use Rattle.container.specs.declared.reader.Layout.{Layout}
 use Rattle.container.specs.declared.reader.ReadError.{ReadError}
 use Rattle.container.specs.declared.reader.ReadError.TheVariants.{BadTag, Short, Trailing}
-use Rattle.container.specs.declared.reader.Reading.{Reading}
-use Rattle.container.specs.declared.reader.Reading.TheVariants as reading
 
 -- what bytes begin with, and the bytes after it; or they end too soon
 pub data Parsed (A : Type 0) : Type 0 where
@@ -67,6 +65,6 @@ layout_of c =
     let k = length c.consts in
     record { code = n; consts = k; entries = length c.entries; code_at = 8; consts_at = 12 + n; entries_at = 16 + n + k * 8 }
 
-unfoldable pub reading_of : Read → Reading
-reading_of (done c) = reading.Done (layout_of c)
-reading_of (refused e) = reading.Refused e
+unfoldable pub reading_of : Read → Result Layout ReadError
+reading_of (done c) = Ok (layout_of c)
+reading_of (refused e) = Err e

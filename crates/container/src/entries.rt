@@ -18,13 +18,6 @@ pub fn words_of(s: &[u8], list: Slots) -> &[u8]
     words::bytes::part(s, list.at, list.count * 8)
 }
 
-// A counted list, and the place after it.
-#[derive(Clone, Copy)]
-pub enum CountedRead {
-    Done(Slots, usize),
-    Short,
-}
-
 // An entry's numbers, its four lists and the place after it.
 #[derive(Clone, Copy)]
 pub struct EntryLayout {
@@ -37,69 +30,45 @@ pub struct EntryLayout {
     pub end: usize,
 }
 
-#[derive(Clone, Copy)]
-pub enum EntryRead {
-    Done(EntryLayout),
-    Short,
-}
-
-// The place after entries.
-#[derive(Clone, Copy)]
-pub enum EntriesEnd {
-    At(usize),
-    Short,
-}
-
 // How many bytes stand from a place on.
 pub fn left(s: &[u8], at: usize) -> usize
     ensures { result ≡ length s.now - at }
 {
-    if s.len() < at { 0 } else { s.len() - at }
+    s.len().saturating_sub(at)
 }
 
 // The counted list at a place.
-pub fn counted_at(s: &[u8], at: usize) -> CountedRead
+#[tactic(auto, using(crate::specs::EntryLaws::list_laws))]
+pub fn counted_at(s: &[u8], at: usize) -> Option<(Slots, usize)>
     ensures { result ≡ list_at at (counted (drop at s.now)) }
 {
     if left(s, at) < 4 {
-        return CountedRead::Short;
+        return None;
     }
     let count = words::bytes::read(s, at, 4) as usize;
     let first = at + 4;
     if (s.len() - first) / 8 < count {
-        return CountedRead::Short;
+        return None;
     }
-    CountedRead::Done(
-        Slots {
-            at: first,
-            count: count,
-        },
-        first + count * 8,
-    )
+    let list = Slots { at: first, count };
+    Some((list, first + count * 8))
 }
 
 // The entry at a place.
-pub fn entry_at(s: &[u8], at: usize) -> EntryRead
+#[tactic(auto, using(crate::specs::EntryLaws::short_laws))]
+pub fn entry_at(s: &[u8], at: usize) -> Option<EntryLayout>
     ensures { result ≡ entry_at at (entry (drop at s.now)) }
 {
     if left(s, at) < 8 {
-        return EntryRead::Short;
+        return None;
     }
     let selector = words::bytes::read(s, at, 4);
     let offset = words::bytes::read(s, at + 4, 4);
-    let CountedRead::Done(reads, w) = counted_at(s, at + 8) else {
-        return EntryRead::Short;
-    };
-    let CountedRead::Done(writes, kr) = counted_at(s, w) else {
-        return EntryRead::Short;
-    };
-    let CountedRead::Done(keyed_reads, kw) = counted_at(s, kr) else {
-        return EntryRead::Short;
-    };
-    let CountedRead::Done(keyed_writes, end) = counted_at(s, kw) else {
-        return EntryRead::Short;
-    };
-    EntryRead::Done(EntryLayout {
+    let (reads, w) = counted_at(s, at + 8)?;
+    let (writes, kr) = counted_at(s, w)?;
+    let (keyed_reads, kw) = counted_at(s, kr)?;
+    let (keyed_writes, end) = counted_at(s, kw)?;
+    Some(EntryLayout {
         selector,
         offset,
         reads,
@@ -118,33 +87,17 @@ pub fn slots_within_limit(e: EntryLayout) -> bool
     let w = e.writes.count;
     let kr = e.keyed_reads.count;
     let kw = e.keyed_writes.count;
-    if 4096 < r {
-        return false;
-    }
-    if 4096 < w {
-        return false;
-    }
-    if 4096 < kr {
-        return false;
-    }
-    if 4096 < kw {
-        return false;
-    }
-    r + w + kr + kw <= 4096
+    r.saturating_add(w).saturating_add(kr).saturating_add(kw) <= 4096
 }
 
 // The place after n entries that stand from a place on.
-pub fn entries_end(s: &[u8], first: usize, n: usize) -> EntriesEnd
+#[tactic(auto, using(crate::specs::EntriesLaws::end_laws))]
+pub fn entries_end(s: &[u8], first: usize, n: usize) -> Option<usize>
     ensures { result ≡ entries_end first (entries n (drop first s.now)) }
 {
     let mut at = first;
-    let mut more = n;
-    while 0 < more {
-        let EntryRead::Done(e) = entry_at(s, at) else {
-            return EntriesEnd::Short;
-        };
-        at = e.end;
-        more -= 1;
+    for _i in 0..n {
+        at = entry_at(s, at)?.end;
     }
-    EntriesEnd::At(at)
+    Some(at)
 }

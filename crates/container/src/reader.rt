@@ -3,7 +3,7 @@ ghost use Rattle.std.specs.Prelude.{◌≡◌, drop};
 ghost use Rattle.container.specs.Reader.{container, whole, read_of, reading_of};
 ghost use Rattle.container.specs.Answers.{read_error};
 
-use super::entries::{CountedRead, EntriesEnd};
+use super::entries::{counted_at, entries_end, left};
 use words::refusal::Refusal;
 
 // QVM1
@@ -20,24 +20,18 @@ pub struct Layout {
     pub entries_at: usize,
 }
 
-#[derive(Clone, Copy)]
+#[derive(Clone, Copy, Debug, PartialEq, Eq)]
 pub enum ReadError {
     BadTag,
     Short,
     Trailing,
 }
 
-#[derive(Clone, Copy)]
-pub enum Reading {
-    Done(Layout),
-    Refused(ReadError),
-}
+impl From<ReadError> for Refusal {
+    ghost from_gives = { λ e r. r ≡ read_error e };
 
-impl ReadError {
-    pub fn refusal(self) -> Refusal
-        ensures { result ≡ read_error self }
-    {
-        match self {
+    fn from(e: ReadError) -> Refusal {
+        match e {
             ReadError::BadTag => Refusal::numbered(41),
             ReadError::Short => Refusal::numbered(42),
             ReadError::Trailing => Refusal::numbered(43),
@@ -46,31 +40,28 @@ impl ReadError {
 }
 
 // What stands after the tag.
-fn body(s: &[u8]) -> Reading
+#[tactic(auto, using(crate::specs::ReaderLaws::body_laws))]
+fn body(s: &[u8]) -> Result<Layout, ReadError>
     ensures { result ≡ reading_of (whole (container (drop 4 s.now))) }
 {
     if s.len() < 8 {
-        return Reading::Refused(ReadError::Short);
+        return Err(ReadError::Short);
     }
     let code = words::bytes::read(s, 4, 4) as usize;
     if s.len() - 8 < code {
-        return Reading::Refused(ReadError::Short);
+        return Err(ReadError::Short);
     }
-    let CountedRead::Done(consts, next) = super::entries::counted_at(s, 8 + code) else {
-        return Reading::Refused(ReadError::Short);
-    };
-    if super::entries::left(s, next) < 4 {
-        return Reading::Refused(ReadError::Short);
+    let (consts, next) = counted_at(s, 8 + code).ok_or(ReadError::Short)?;
+    if left(s, next) < 4 {
+        return Err(ReadError::Short);
     }
     let entries = words::bytes::read(s, next, 4) as usize;
     let entries_at = next + 4;
-    let EntriesEnd::At(end) = super::entries::entries_end(s, entries_at, entries) else {
-        return Reading::Refused(ReadError::Short);
-    };
+    let end = entries_end(s, entries_at, entries).ok_or(ReadError::Short)?;
     if end < s.len() {
-        return Reading::Refused(ReadError::Trailing);
+        return Err(ReadError::Trailing);
     }
-    Reading::Done(Layout {
+    Ok(Layout {
         code,
         consts: consts.count,
         entries,
@@ -81,14 +72,15 @@ fn body(s: &[u8]) -> Reading
 }
 
 // How a container stands in bytes, or why there is none.
-pub fn read(s: &[u8]) -> Reading
+#[tactic(auto, using(crate::specs::ReaderLaws::tag_laws))]
+pub fn read(s: &[u8]) -> Result<Layout, ReadError>
     ensures { result ≡ reading_of (read_of s.now) }
 {
     if s.len() < 4 {
-        return Reading::Refused(ReadError::Short);
+        return Err(ReadError::Short);
     }
     if words::bytes::read(s, 0, 4) != TAG {
-        return Reading::Refused(ReadError::BadTag);
+        return Err(ReadError::BadTag);
     }
     body(s)
 }

@@ -1,11 +1,12 @@
 -- Document 01's number and argument for each case of verify's answers (Numbers returned); 0 0 when done.
+use Rattle.std.specs.Prelude.{Result, Ok, Err}
 use Rattle.words.specs.Refusals.{refusal}
 use Rattle.words.specs.declared.refusal.Refusal.{Refusal}
 use Rattle.container_verify.specs.declared.verify.VerifyError.{VerifyError}
 use Rattle.container_verify.specs.declared.verify.VerifyError.TheVariants as verify
-use Rattle.container_verify.specs.declared.verify.Verified.{Verified}
-use Rattle.container_verify.specs.declared.verify.Verified.TheVariants as verified
 use Rattle.container.specs.Answers.{read_error}
+use Rattle.container.specs.declared.reader.Layout.{Layout}
+use Rattle.container_verify.specs.declared.verify.Invalid.{Invalid}
 
 -- selectors as numbers
 abbrev pub verify_error : VerifyError → Refusal
@@ -19,7 +20,10 @@ verify_error (verify.EntryOffsetMisaligned selector) = refusal 27 selector
 verify_error (verify.DuplicateSelector selector) = refusal 28 selector
 verify_error (verify.AccessListTooLarge selector) = refusal 29 selector
 
-abbrev pub verified_answer : Verified → Refusal
-verified_answer (verified.Valid l) = refusal 0 0
-verified_answer (verified.Unreadable e) = read_error e
-verified_answer (verified.Refused e) = verify_error e
+abbrev pub invalid_refusal : Invalid → Refusal
+invalid_refusal (Invalid.Unreadable e) = read_error e
+invalid_refusal (Invalid.Refused e) = verify_error e
+
+abbrev pub verified_answer : Result Layout Invalid → Refusal
+verified_answer (Ok l) = refusal 0 0
+verified_answer (Err e) = invalid_refusal e

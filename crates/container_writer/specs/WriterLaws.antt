@@ -1,12 +1,14 @@
 -- What the writer's code finds in the list of entries. Assumes nothing.
-use Rattle.std.specs.Prelude.{◌≡◌, refl, Bool, true, false, List, [], ◌∷◌, ◌++◌, ℕ, zero, suc, ◌+◌, ◌-◌, ◌^◌, ◌≤◌, ◌<◌, ltb, leb, eqb, length, take, drop}
-use Rattle.std.proofs.Common.{sym, ap, ◌∙◌, arith, add-one, length-drop, drop_of_length-le, drop-cons, drop-drop, get_or-take, length-take-le, ltb-true, leb-true, eqb-true, le-ltb, lt-ltb, le-leb, eq-eqb, ne_eqb}
-use Rattle.std.proofs.Math.Option.{Option, some, none}
-use Rattle.std.proofs.lemmas.Bool.{eqb-false, lt-leb}
-use Rattle.words.specs.Choice.{pick, both, is_some}
+use Rattle.std.specs.Prelude.{◌≡◌, refl, Bool, true, false, List, [], ◌∷◌, ◌++◌, ℕ, zero, suc, ◌+◌, ◌-◌, ◌^◌, ◌≤◌, ◌<◌, ltb, leb, eqb, length, take, drop, Option, Some, None, is_some}
+use Rattle.std.proofs.Common.{sym, ap, ◌∙◌, arith, get_or-take, length-take-le, ltb-true, leb-true, le-ltb, lt-ltb, le-leb, ne_eqb}
+use Rattle.std.proofs.Math.Nat.{sub-zero}
+use Rattle.std.proofs.lemmas.Bool.{lt-leb}
+use Rattle.std.proofs.lemmas.List.Folds.{list_all_at}
+use Rattle.words.specs.Choice.{pick, both}
 use Rattle.container.specs.Container.{Entry}
 use Rattle.container.specs.Canonical.{entry_bytes, entries_bytes}
 use Rattle.words.specs.Lists.{nth}
+use Rattle.words.specs.BytesLaws.{rest}
 use Rattle.container_writer.specs.Writer.{all_short, slots_in, begins_entry, entry_in, with_entry, nothing_left, entries_in, listed}
 use Rattle.container_writer.specs.WriterParts.{BeginsEntry, or_empty}
 
@@ -18,20 +20,15 @@ both_right : (a b : Bool) → both a b ≡ true → b ≡ true
 both_right true b e = e
 both_right false b e = let z : ◌≡◌ {A = ℕ} 0 1 = cc in absurd (omega arith)
 
--- what is left of the numbers decides
-pub short_turn : (xs : List ℕ) (i : ℕ) → i < length xs → all_short (drop i xs) ≡ both (ltb (nth xs i) (2 ^ 32)) (all_short (drop (i + 1) xs))
-unfolding all_short
-short_turn xs i h = rw (add-one, drop-cons xs i 0)
-
-pub short_end : (xs : List ℕ) (i : ℕ) → length xs ≤ i → all_short (drop i xs) ≡ true
-unfolding all_short
-short_end xs i h = rw (drop_of_length-le xs h)
-
 short_at : (xs : List ℕ) (k : ℕ) → all_short xs ≡ true → k < length xs → nth xs k < 2 ^ 32
 unfolding all_short
-short_at [] k e h = absurd (omega arith)
-short_at (x ∷ xs) zero e h = ltb-true x (2 ^ 32) (both_left (ltb x (2 ^ 32)) (all_short xs) e)
-short_at (x ∷ xs) (suc k) e h = short_at xs k (both_right (ltb x (2 ^ 32)) (all_short xs) e) (omega arith)
+short_at xs k e h = by (ltb (nth xs k) (2 ^ 32)) refl
+  where
+    by : (t : Bool) → ltb (nth xs k) (2 ^ 32) ≡ t → nth xs k < 2 ^ 32
+    by true q = ltb-true (nth xs k) (2 ^ 32) q
+    by false q =
+        let z : true ≡ false = sym e ∙ list_all_at (λ x. ltb x (2 ^ 32)) xs k 0 h q in
+        let w : ◌≡◌ {A = ℕ} 0 1 = cc in absurd (omega arith)
 
 pub six_short : (xs : List ℕ) (k : ℕ) → 6 ≤ length xs → all_short (take 6 xs) ≡ true → k < 6 → nth xs k < 2 ^ 32
 six_short xs k h e l = rw (get_or-take 6 xs k 0 l) at (short_at (take 6 xs) k e (rw (length-take-le 6 xs h) l))
@@ -68,24 +65,26 @@ slots_below xs h e =
     let s : (k : ℕ) → k < 6 → nth xs k < 2 ^ 32 = λ k l. six_short xs k h e l in
     omega (arith, s 2 (omega arith), s 3 (omega arith), s 4 (omega arith), s 5 (omega arith))
 
+pub ruleset begins_laws = (begins_few, begins_long, begins_by, slots_below)
+
 -- the rest of a list after the entry that it begins with
 abbrev pub after_entry : List ℕ → List ℕ
 after_entry xs = drop (6 + slots_in xs) xs
 
-entries_turn : (n : ℕ) (xs : List ℕ) → 0 < n → entries_in n xs ≡ pick (begins_entry xs) (with_entry (entry_in xs) (entries_in (n - 1) (after_entry xs))) none
+entries_turn : (n : ℕ) (xs : List ℕ) → 0 < n → entries_in n xs ≡ pick (begins_entry xs) (with_entry (entry_in xs) (entries_in (n - 1) (after_entry xs))) None
 unfolding entries_in
 entries_turn zero xs h = absurd (omega arith)
 entries_turn (suc n) xs h = let e : suc n - 1 ≡ n = omega arith in rw e
 
 is_with : (e : Entry) (o : Option (List Entry)) → is_some (with_entry e o) ≡ is_some o
 unfolding with_entry
-is_with e none = refl
-is_with e (some es) = refl
+is_with e None = refl
+is_with e (Some es) = refl
 
 or_with : (e : Entry) (o : Option (List Entry)) → is_some o ≡ true → or_empty (with_entry e o) ≡ e ∷ or_empty o
 unfolding with_entry
-or_with e none h = let z : ◌≡◌ {A = ℕ} 0 1 = cc in absurd (omega arith)
-or_with e (some es) h = refl
+or_with e None h = let z : ◌≡◌ {A = ℕ} 0 1 = cc in absurd (omega arith)
+or_with e (Some es) h = refl
 
 -- what is left of the list decides
 pub is_turn : (n : ℕ) (xs : List ℕ) → 0 < n → begins_entry xs ≡ true → is_some (entries_in n xs) ≡ is_some (entries_in (n - 1) (after_entry xs))
@@ -100,24 +99,33 @@ is_end zero [] h = refl
 is_end zero (x ∷ xs) h = sym (ne_eqb 0 (suc (length xs)) (λ e. omega arith))
 is_end (suc n) xs h = absurd (omega arith)
 
-pub is_whole : (n k : ℕ) (xs : List ℕ) → n ≡ 0 → k ≤ length xs → is_some (entries_in n (drop k xs)) ≡ eqb k (length xs)
-is_whole n k xs h l = is_end n (drop k xs) h ∙ rw (length-drop k xs) (by (eqb k (length xs)) refl)
-  where
-    by : (t : Bool) → eqb k (length xs) ≡ t → eqb 0 (length xs - k) ≡ t
-    by true e = eq-eqb 0 (length xs - k) (omega (arith, eqb-true k (length xs) e))
-    by false e = ne_eqb 0 (length xs - k) (λ z. eqb-false k (length xs) e (omega arith))
+-- what an entry that a list begins with has of the list
+module _ (xs : List ℕ) (b : begins_entry xs ≡ true) where
+  pub begins_six : 6 ≤ length xs
+  begins_six = (begins xs b).six
 
--- the entry at a place of a list, with n slots: it stands whole, and the rest follows
-pub record EntryStep (list : List ℕ) (place n : ℕ) : Type 0 where
-  pub within : place + (6 + n) ≤ length list
-  pub after : after_entry (drop place list) ≡ drop (place + (6 + n)) list
+  pub begins_short : all_short (take 6 xs) ≡ true
+  begins_short = (begins xs b).short
 
-pub step : (list : List ℕ) (place n : ℕ) → place ≤ length list → begins_entry (drop place list) ≡ true → n ≡ slots_in (drop place list) → EntryStep list place n
-step list place n l b e =
-    record {
-      within = omega (arith, (begins (drop place list) b).whole, length-drop place list, e);
-      after = rw (← e) (drop-drop (6 + n) place list);
-    }
+  pub begins_whole : 6 + slots_in xs ≤ length xs
+  begins_whole = (begins xs b).whole
+
+  pub begins_below : slots_in xs < 2 ^ 34
+  begins_below = slots_below xs begins_six begins_short
+
+-- what a loop over n entries finds after i
+module _ (n i : ℕ) (xs : List ℕ) where
+  pub list_turn : i < n → begins_entry xs ≡ true → (k : ℕ) → k ≡ slots_in xs → is_some (entries_in (n - i) xs) ≡
+      is_some (entries_in (n - (i + 1)) (take (length xs - (6 + k)) (drop (6 + k) xs)))
+  list_turn h b k e =
+      let m : n - i - 1 ≡ n - (i + 1) = omega arith in
+      rw (rest (6 + k) xs, e, ← m) (is_turn (n - i) xs (omega arith) b)
+
+  pub list_none : i < n → begins_entry xs ≡ false → false ≡ is_some (entries_in (n - i) xs)
+  list_none h b = sym (is_none_lem (n - i) xs (omega arith) b)
+
+  pub list_end : n ≤ i → eqb 0 (length xs) ≡ is_some (entries_in (n - i) xs)
+  list_end h = sym (is_end (n - i) xs (omega arith))
 
 -- a list of n entries, one at least
 pub record More (n : ℕ) (xs : List ℕ) : Type 0 where
@@ -138,20 +146,43 @@ more n xs h s = by (begins_entry xs) refl
         }
     by false b = let z : true ≡ false = sym s ∙ is_none_lem n xs h b in let w : ◌≡◌ {A = ℕ} 0 1 = cc in absurd (omega arith)
 
-pub bytes_turn : (n : ℕ) (xs : List ℕ) → More n xs →
-    entries_bytes (or_empty (entries_in n xs)) ≡ entry_bytes (entry_in xs) ++ entries_bytes (or_empty (entries_in (n - 1) (after_entry xs)))
-unfolding entries_bytes
-bytes_turn n xs m = ap entries_bytes m.are
-
 pub none_left : (n : ℕ) (xs : List ℕ) → n ≡ 0 → or_empty (entries_in n xs) ≡ []
 unfolding entries_in nothing_left
 none_left zero [] h = refl
 none_left zero (x ∷ xs) h = refl
 none_left (suc n) xs h = absurd (omega arith)
 
-pub bytes_end : (n : ℕ) (xs : List ℕ) → n ≡ 0 → entries_bytes (or_empty (entries_in n xs)) ≡ []
+-- the bytes of n entries of a list
+abbrev pub bytes_of : ℕ → List ℕ → List ℕ
+bytes_of n xs = entries_bytes (or_empty (entries_in n xs))
+
+bytes_turn : (n : ℕ) (xs : List ℕ) → More n xs → bytes_of n xs ≡ entry_bytes (entry_in xs) ++ bytes_of (n - 1) (after_entry xs)
+unfolding entries_bytes
+bytes_turn n xs m = ap entries_bytes m.are
+
+bytes_end : (n : ℕ) (xs : List ℕ) → n ≡ 0 → bytes_of n xs ≡ []
 unfolding entries_bytes
 bytes_end n xs h = ap entries_bytes (none_left n xs h)
+
+-- what a loop over n entries of a list that is one has before it after i
+module _ (n i : ℕ) (xs : List ℕ) where
+  pub more_at : i < n → is_some (entries_in (n - i) xs) ≡ true → begins_entry xs ≡ true
+  more_at h s = (more (n - i) xs (omega arith) s).begin
+
+  pub more_next : i < n → is_some (entries_in (n - i) xs) ≡ true → (k : ℕ) → k ≡ slots_in xs →
+      is_some (entries_in (n - (i + 1)) (take (length xs - (6 + k)) (drop (6 + k) xs))) ≡ true
+  more_next h s k e =
+      let m : n - i - 1 ≡ n - (i + 1) = omega arith in
+      rw (rest (6 + k) xs, e, ← m) (more (n - i) xs (omega arith) s).next
+
+  pub bytes_at : i < n → is_some (entries_in (n - i) xs) ≡ true → (k : ℕ) → k ≡ slots_in xs →
+      bytes_of (n - i) xs ≡ entry_bytes (entry_in xs) ++ bytes_of (n - (i + 1)) (take (length xs - (6 + k)) (drop (6 + k) xs))
+  bytes_at h s k e =
+      let m : n - i - 1 ≡ n - (i + 1) = omega arith in
+      rw (rest (6 + k) xs, e, ← m) (bytes_turn (n - i) xs (more (n - i) xs (omega arith) s))
+
+  pub bytes_after : n ≤ i → bytes_of (n - i) xs ≡ []
+  bytes_after h = bytes_end (n - i) xs (omega arith)
 
 -- the number that a list begins with says how many entries follow
 pub listed_empty : (xs : List ℕ) → length xs ≡ 0 → is_some (listed xs) ≡ false
@@ -168,6 +199,12 @@ pub listed_is : (xs : List ℕ) → 0 < length xs → nth xs 0 < 2 ^ 32 → list
 unfolding listed
 listed_is [] h l = absurd (omega arith)
 listed_is (x ∷ xs) h l = rw (lt-ltb x (2 ^ 32) l)
+
+pub listed_small : (xs rest : List ℕ) (n : ℕ) → xs ≡ n ∷ rest → n < 2 ^ 32 → is_some (listed xs) ≡ is_some (entries_in (n - 0) rest)
+unfolding listed
+listed_small xs rest n e h = rw (e, sub-zero, lt-ltb n (2 ^ 32) h)
+
+pub ruleset list_laws = (begins_six, begins_short, begins_whole, begins_below, list_turn, list_none, list_end, listed_empty, listed_large, listed_small)
 
 pub record ListStands (xs : List ℕ) : Type 0 where
   pub stands : 0 < length xs

@@ -1,6 +1,5 @@
 -- What the parts of the writer promise each other.
-use Rattle.std.specs.Prelude.{◌≡◌, true, List, [], ℕ, ◌+◌, ◌≤◌, length, take}
-use Rattle.std.proofs.Math.Option.{Option, some, none}
+use Rattle.std.specs.Prelude.{◌≡◌, true, List, [], ℕ, ◌+◌, ◌≤◌, length, take, Option, unwrap_or}
 use Rattle.container.specs.Container.{Entry, Container}
 use Rattle.container_writer.specs.Writer.{all_short, slots_in, listed}
 
@@ -12,8 +11,7 @@ pub record BeginsEntry (xs : List ℕ) : Type 0 where
 
 -- the entries of a list that is one
 abbrev pub or_empty : Option (List Entry) → List Entry
-or_empty none = []
-or_empty (some es) = es
+or_empty o = unwrap_or o []
 
 -- the container of code, constants and a list that is one
 abbrev pub container_of : (code consts list : List ℕ) → Container

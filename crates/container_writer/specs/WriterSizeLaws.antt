@@ -1,7 +1,6 @@
 -- How many bytes a container takes, and that the list's length tells it. Assumes nothing.
-use Rattle.std.specs.Prelude.{◌≡◌, refl, true, List, ◌++◌, ℕ, zero, suc, ◌+◌, ◌*◌, ◌-◌, ◌≤◌, length, take, drop}
+use Rattle.std.specs.Prelude.{◌≡◌, refl, true, List, ◌++◌, ℕ, zero, suc, ◌+◌, ◌*◌, ◌-◌, ◌≤◌, length, take, drop, is_some}
 use Rattle.std.proofs.Common.{sym, ap, ◌∙◌, arith, length-append, length-drop, length-take-le, eqb-true}
-use Rattle.words.specs.Choice.{is_some}
 use Rattle.words.specs.Bytes.{be_bytes}
 use Rattle.words.specs.BytesLaws.{length_be_bytes}
 use Rattle.container.specs.Container.{Entry, Container, slot_count, tag}

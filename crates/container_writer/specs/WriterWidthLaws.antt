@@ -1,7 +1,6 @@
 -- What the writer takes from its list is within its width. Assumes nothing.
-use Rattle.std.specs.Prelude.{◌≡◌, refl, true, List, [], ◌∷◌, ℕ, zero, suc, ◌+◌, ◌-◌, ◌^◌, ◌<◌, take, drop}
+use Rattle.std.specs.Prelude.{◌≡◌, refl, true, List, [], ◌∷◌, ℕ, zero, suc, ◌+◌, ◌-◌, ◌^◌, ◌<◌, take, drop, is_some}
 use Rattle.std.proofs.Common.{arith, length-take}
-use Rattle.words.specs.Choice.{is_some}
 use Rattle.container.specs.Canonical.{Words, CountedWords, WritableEntry, WritableEntries}
 use Rattle.words.specs.Lists.{nth}
 use Rattle.container_writer.specs.Writer.{slots_in, entry_in, entries_in}

@@ -1,5 +1,5 @@
 -- A record pasted into a log part by part. Assumes nothing.
-use Rattle.std.specs.Prelude.{◌≡◌}
+use Rattle.std.specs.Prelude.{◌≡◌, Some, None}
 use Rattle.std.proofs.Math.Path.{refl, ap}
 use Rattle.std.proofs.Common.{sym, ◌∙◌, mod-eq_of_lt, take_all, drop-drop, le-leb}
 use mathlib.Core.List.{List, [], ◌∷◌, ◌++◌, append_assoc}
@@ -13,7 +13,6 @@ use Rattle.words.specs.BytesLaws.{length_be_bytes}
 use Rattle.effects.specs.Log.{Effect, record_of}
 use Rattle.effects.specs.LogLaws.{length_record}
 use Rattle.effects.specs.Appended.{grown_of, Appended}
-use Rattle.effects.specs.declared.log.Grown.TheVariants.{End, NoRoom}
 
 -- what is pasted behind what was pasted is pasted with it
 paste_more : (d t u x y : List ℕ) (end m k : ℕ) → length x ≡ m → length y ≡ k → end + m ≤ length d
@@ -32,7 +31,7 @@ paste_more d t u x y end m k lx ly h p q =
     (λ i. (take end d ++ sym txy i) ++ drop (end + (m + k)) d)
 
 module _ (e : Effect) (end : ℕ) (t : List ℕ) where
-  pub no_room : length t < end + length e.bytes + 13 → Appended e end t t NoRoom
+  pub no_room : length t < end + length e.bytes + 13 → Appended e end t t None
   unfolding grown_of
   no_room l = record { answer = rw (lt-leb (end + length e.bytes + 13) (length t) l); bytes = refl }
 
@@ -70,7 +69,7 @@ module _ (e : Effect) (end : ℕ) (t : List ℕ) where
         let whole : ((x ++ y) ++ w) ++ z ≡ x ++ (e.kind ∷ (w ++ z)) = ap (λ (v : List ℕ). ((x ++ v) ++ w) ++ z) kind_byte ∙ simp append_assoc in
         qd ∙ (λ k. paste t end (whole k) (m k))
 
-    pub appended : (d : List ℕ) → d ≡ paste t end (record_of e) (length e.bytes + 13) → Appended e end t d (End (end + length e.bytes + 13))
+    pub appended : (d : List ℕ) → d ≡ paste t end (record_of e) (length e.bytes + 13) → Appended e end t d (Some (end + length e.bytes + 13))
     unfolding grown_of
     appended d p =
         let n : ℕ = length e.bytes + 13 in

@@ -1,13 +1,11 @@
 -- A log read back gives its effects, so it determines them; and what an append leaves is the log with one effect more. Assumes nothing.
-use Rattle.std.specs.Prelude.{◌≡◌, refl, List, [], ◌∷◌, ◌++◌, ℕ, zero, suc, ◌+◌, ◌≤◌, ◌<◌, length, drop}
+use Rattle.std.specs.Prelude.{◌≡◌, refl, List, [], ◌∷◌, ◌++◌, ℕ, zero, suc, ◌+◌, ◌≤◌, ◌<◌, length, drop, Option, Some, None}
 use Rattle.std.proofs.Common.{sym, ap, ◌∙◌, subst, arith, take-append-drop, take_all}
 use Rattle.std.proofs.Math.ListN.{take}
 use Rattle.effects.specs.Log.{Effect, record_of, log_of, FitTrailers}
 use Rattle.effects.specs.ReadBack.{size_of, record_start, last_of, read_back, effects_of}
 use Rattle.effects.specs.LogLaws.{Newest, newest, length_log}
 use Rattle.effects.specs.Appended.{Grew, Appended}
-use Rattle.effects.specs.declared.log.Grown.{Grown}
-use Rattle.effects.specs.declared.log.Grown.TheVariants.{End, NoRoom}
 
 -- the last record of a log is its newest effect's, and begins where the older ones' log ends
 module _ (s : List ℕ) (e : Effect) (es : List Effect) (n : Newest s (length s) e es) where
@@ -46,14 +44,14 @@ pub log_determines : (es fs : List Effect) → FitTrailers es → FitTrailers fs
 log_determines es fs se sf e = sym (read_back_log es se) ∙ ap effects_of e ∙ read_back_log fs sf
 
 -- after an append the log is that of one effect more
-pub appended_log : (e : Effect) (es : List Effect) (end m : ℕ) (t u : List ℕ) → Appended e end t u (End m) → take end t ≡ log_of es → take m u ≡ log_of (e ∷ es)
+pub appended_log : (e : Effect) (es : List Effect) (end m : ℕ) (t u : List ℕ) → Appended e end t u (Some m) → take end t ≡ log_of es → take m u ≡ log_of (e ∷ es)
 unfolding log_of
 appended_log e es end m t u a h = a.bytes.0 ∙ ap (λ (x : List ℕ). x ++ record_of e) h
 
 -- whatever `append` is allowed to leave, there is one answer and one list of bytes
-pub appended_once : (e : Effect) (end : ℕ) (t u v : List ℕ) (r s : Grown) → Appended e end t u r → Appended e end t v s → (r ≡ s) × (u ≡ v)
-appended_once e end t u v r s a b = let q = a.answer ∙ sym b.answer in (q, once r a.bytes (subst (λ (o : Grown). Grew o e end t v) (sym q) b.bytes))
+pub appended_once : (e : Effect) (end : ℕ) (t u v : List ℕ) (r s : Option ℕ) → Appended e end t u r → Appended e end t v s → (r ≡ s) × (u ≡ v)
+appended_once e end t u v r s a b = let q = a.answer ∙ sym b.answer in (q, once r a.bytes (subst (λ (o : Option ℕ). Grew o e end t v) (sym q) b.bytes))
   where
-    once : (o : Grown) → Grew o e end t u → Grew o e end t v → u ≡ v
-    once (End m) x y = sym (take-append-drop m u) ∙ (λ i. (x.0 ∙ sym y.0) i ++ (x.1 ∙ sym y.1) i) ∙ take-append-drop m v
-    once NoRoom x y = x ∙ sym y
+    once : (o : Option ℕ) → Grew o e end t u → Grew o e end t v → u ≡ v
+    once (Some m) x y = sym (take-append-drop m u) ∙ (λ i. (x.0 ∙ sym y.0) i ++ (x.1 ∙ sym y.1) i) ∙ take-append-drop m v
+    once None x y = x ∙ sym y

@@ -1,7 +1,7 @@
 -- What a trailer and a record's bytes tell of its target. Assumes nothing.
-use Rattle.std.specs.Prelude.{◌≡◌, Bool, ◌⊎◌, ℕ, ◌+◌, ◌-◌, ◌≤◌, ◌<◌, length, take, drop, get_or, leb}
+use Rattle.std.specs.Prelude.{◌≡◌, Bool, ℕ, ◌+◌, ◌≤◌, ◌<◌, length, take, drop, get_or, leb}
 use Rattle.std.proofs.Math.Path.{refl}
-use Rattle.std.proofs.Common.{sym, ap, ◌∙◌, inl, inr, arith, eq-or-lt_of_le, length-drop, take_all, take-take, length-take-le, get_or-take, get_or-drop, ext_get_or, eq-eqb, eqb-true, leb-true}
+use Rattle.std.proofs.Common.{sym, ap, ◌∙◌, arith, length-drop, take_all, take-take, length-take-le, get_or-take, get_or-drop, ext_get_or, eq-eqb, eqb-true, leb-true}
 use Rattle.std.proofs.Math.Bool.{true, false}
 use mathlib.Core.List.{List, [], ◌∷◌}
 use Rattle.std.proofs.Math.Dec.{eqb}
@@ -24,8 +24,8 @@ same_self (x ∷ xs) = rw (eq-eqb x x refl) (same_self xs)
 true_same : (xs ys : List ℕ) → same xs ys ≡ true → xs ≡ ys
 unfolding same
 true_same [] [] e = refl
-true_same [] (y ∷ ys) e = let z : ◌≡◌ {A = ℕ} 0 1 = cc in absurd (omega arith)
-true_same (x ∷ xs) [] e = let z : ◌≡◌ {A = ℕ} 0 1 = cc in absurd (omega arith)
+true_same [] (y ∷ ys) e = absurd cc
+true_same (x ∷ xs) [] e = absurd cc
 true_same (x ∷ xs) (y ∷ ys) e =
     let h : x ≡ y = eqb-true x y (both_left (eqb x y) (same xs ys) e) in
     let t : xs ≡ ys = true_same xs ys (both_right (eqb x y) (same xs ys) e) in
@@ -101,7 +101,7 @@ alike_within t k n h = go (eqb t.kind 0) refl (mints t.kind t.word t.length) ref
     go : (a : Bool) → eqb t.kind 0 ≡ a → (b : Bool) → mints t.kind t.word t.length ≡ b → n ≤ t.length
     go true p b r = let q = eqb-true n t.length (rw p at right) in omega arith
     go false p true r = let q = eqb-true n 32 (rw (p, r) at right) in omega (arith, mints_are t.kind t.word t.length r)
-    go false p false r = let f : false ≡ true = rw (p, r) at right in let z : ◌≡◌ {A = ℕ} 0 1 = cc in absurd (omega arith)
+    go false p false r = let f : false ≡ true = rw (p, r) at right in absurd cc
 
 -- the same, by the trailer and the log's bytes at its place
 abbrev pub hits : Target → Trailer → List ℕ → Bool
@@ -122,14 +122,6 @@ hit_here g log t e es (q, b) = go (alike_of t g.kind (length g.bytes)) refl
     go false r = hit g e es ∙ rw (is ∙ r)
 
 -- bytes compared one by one, the last first
-
-pub same_from : (log ys : List ℕ) (from i : ℕ) → ((k : ℕ) → i ≤ k → k < length ys → get_or log (from + k) 0 ≡ get_or ys k 0) →
-    get_or log (from + (i - 1)) 0 ≡ get_or ys (i - 1) 0 → (k : ℕ) → i - 1 ≤ k → k < length ys → get_or log (from + k) 0 ≡ get_or ys k 0
-same_from log ys from i f e k l m = go (eq-or-lt_of_le l)
-  where
-    go : (i - 1 ≡ k) ⊎ (i - 1 < k) → get_or log (from + k) 0 ≡ get_or ys k 0
-    go (inl q) = rw q at e
-    go (inr q) = f k (omega arith) m
 
 module _ (log ys : List ℕ) (from : ℕ) (h : from + length ys ≤ length log) where
   part : length (take (length ys) (drop from log)) ≡ length ys

@@ -1,6 +1,5 @@
 -- Durable targets (document 01, The run: Send, Emit): equal bytes of the two kinds are two targets.
-use Rattle.std.specs.Prelude.{Bool, true, false, List, [], ◌∷◌, ℕ, ◌*◌, length, take, eqb, leb}
-use Rattle.std.proofs.Math.Option.{Option, some, none}
+use Rattle.std.specs.Prelude.{Bool, true, false, List, [], ◌∷◌, ℕ, ◌*◌, length, take, eqb, leb, Option, Some, None}
 use Rattle.words.specs.Choice.{pick, both, either}
 use Rattle.effects.specs.Log.{Effect}
 
@@ -20,8 +19,8 @@ mints kind word size = both (eqb kind 1) (both (eqb word mint_word) (leb 40 size
 -- a transfer's target is all its bytes, a mint's its first 32; nothing else has one
 unfoldable pub target_of : Effect → Option Target
 target_of e =
-    pick (eqb e.kind 0) (some (record { kind = 0; bytes = e.bytes }))
-    (pick (mints e.kind e.word (length e.bytes)) (some (record { kind = 1; bytes = take 32 e.bytes })) none)
+    pick (eqb e.kind 0) (Some (record { kind = 0; bytes = e.bytes }))
+    (pick (mints e.kind e.word (length e.bytes)) (Some (record { kind = 1; bytes = take 32 e.bytes })) None)
 
 -- two lists are equal
 unfoldable pub same : List ℕ → List ℕ → Bool
@@ -32,13 +31,13 @@ same (x ∷ xs) (y ∷ ys) = both (eqb x y) (same xs ys)
 
 -- a target is there, and is this one
 unfoldable pub is_target : Target → Option Target → Bool
-is_target t none = false
-is_target t (some u) = both (eqb u.kind t.kind) (same u.bytes t.bytes)
+is_target t None = false
+is_target t (Some u) = both (eqb u.kind t.kind) (same u.bytes t.bytes)
 
 -- a target is there
 unfoldable pub has_target : Option Target → Bool
-has_target none = false
-has_target (some u) = true
+has_target None = false
+has_target (Some u) = true
 
 -- some effect has this target
 unfoldable pub known_in : Target → List Effect → Bool

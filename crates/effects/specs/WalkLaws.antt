@@ -22,9 +22,6 @@ pub record Walked {A : Type 0} (f : List Effect → A) (g : A → A) (log : List
   pub left : (es : List Effect) → FitTrailers es → take end log ≡ log_of es → EffectsLeft f g log at es
 
 module _ {A : Type 0} (f : List Effect → A) (g : A → A) (log : List ℕ) (end : ℕ) where
-  pub walk_start : ((x : A) → x ≡ g x) → Walked f g log end end
-  walk_start h = record { left = λ es s e. record { older = es; small = s; bytes = e; same = h (f es) } }
-
   pub walk_end : (at : ℕ) → at ≡ 0 → Walked f g log end at → (es : List Effect) → FitTrailers es → take end log ≡ log_of es → g (f []) ≡ f es
   walk_end at z w es s e =
       let p = w.left es s e in

@@ -11,13 +11,7 @@ use crate::trailer::Trailer;
 fn weight(t: Trailer, all: bool) -> usize
     ensures { result ≡ bit (either all (eqb t.kind 1)) }
 {
-    if all {
-        return 1;
-    }
-    if t.kind == 1 {
-        return 1;
-    }
-    0
+    usize::from(all || t.kind == 1)
 }
 
 // How many records of the log's first `end` bytes count.
@@ -27,6 +21,7 @@ fn count(log: &[u8], end: usize, all: bool) -> usize
 {
     let mut n = 0;
     let mut at = end;
+    // No range to go over: where a record begins is read in its trailer.
     while at > 0 {
         let t = crate::trailer::record_ending_at(log, at);
         n += weight(t, all);

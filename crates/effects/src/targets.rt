@@ -10,36 +10,23 @@ use crate::trailer::Trailer;
 const MINT: u64 = 0x4D494E5400000000;
 
 // Whether a record has a target.
-#[tactic(auto, using(crate::proofs::Durable::durable_laws))]
+#[tactic(auto, unfolding(crate::specs::Trailers::durable_of, crate::specs::Targets::mints))]
 fn durable(t: Trailer) -> bool
     ensures { result ≡ durable_of t }
 {
-    if t.kind == 0 {
-        return true;
-    }
-    if t.kind != 1 {
-        return false;
-    }
-    if t.word != MINT {
-        return false;
-    }
-    t.length >= 40
+    t.kind == 0 || (t.kind == 1 && t.word == MINT && t.length >= 40)
 }
 
 // Whether a record has a target of this kind and this many bytes.
+#[tactic(auto, unfolding(crate::specs::Trailers::alike_of))]
 fn alike(t: Trailer, kind: u8, size: usize) -> bool
     ensures { result ≡ alike_of t kind size }
 {
-    if t.kind != kind {
-        return false;
-    }
     if t.kind == 0 {
-        return size == t.length;
+        kind == 0 && size == t.length
+    } else {
+        t.kind == kind && durable(t) && size == 32
     }
-    if !durable(t) {
-        return false;
-    }
-    size == 32
 }
 
 // Whether the log's first `end` bytes hold a target of this kind and these bytes.
@@ -58,16 +45,12 @@ pub fn known(log: &[u8], end: usize, kind: u8, target: &[u8]) -> bool
         if !alike(t, kind, target.len()) {
             continue 'walk;
         }
-        let mut i = target.len();
-        loop {
-            if i == 0 {
-                break 'walk true;
-            }
-            i -= 1;
+        for i in (0..target.len()).rev() {
             if log[at + i] != target[i] {
-                break;
+                continue 'walk;
             }
         }
+        break 'walk true;
     }
 }
 
@@ -77,6 +60,7 @@ pub fn any_target(log: &[u8], end: usize) -> bool
     ensures { (es : List Effect) → FitTrailers es → take end log.now ≡ log_of es → result ≡ any_target es }
 {
     let mut at = end;
+    // No range to go over: where a record begins is read in its trailer.
     while at > 0 {
         let t = crate::trailer::record_ending_at(log, at);
         if durable(t) {

@@ -1,21 +1,8 @@
 -- Words copied to the front of a buffer, and what follows for an answer. Assumes nothing.
-use Rattle.std.specs.Prelude.{◌≡◌, List, ℕ, ◌+◌, ◌%◌, ◌^◌, ◌≤◌, ◌<◌, length, get_or, set, ltb}
-use Rattle.std.proofs.Common.{ap, ◌∙◌, arith, take_all, lt-ltb, le-ltb}
-use Rattle.std.proofs.Math.Seq.{paste}
+use Rattle.std.specs.Prelude.{◌≡◌, List, ℕ, ◌%◌, ◌^◌, ◌≤◌, ◌<◌, length, get_or, ltb}
+use Rattle.std.proofs.Common.{ap, ◌∙◌, lt-ltb, le-ltb}
 use Rattle.words.specs.Choice.{pick}
-use Rattle.words.specs.BytesLaws.{copy_turn}
 use Rattle.gateway.specs.Boundary.{words_into, answered, answered_of, told, told_of}
-
-pub words_turn : (d t ws : List ℕ) (i : ℕ) → i < length d → i < length ws → t ≡ paste d 0 ws i → set t i (get_or ws i 0) ≡ paste d 0 ws (i + 1)
-words_turn d t ws i h k p =
-    let z : i ≡ 0 + i = omega arith in
-    ap (λ (n : ℕ). set t n (get_or ws i 0)) z ∙ copy_turn d t ws 0 i (omega arith) k p
-
-pub words_end : (d t ws : List ℕ) (i : ℕ) → i ≡ length ws → t ≡ paste d 0 ws i → t ≡ words_into ws d
-unfolding words_into
-words_end d t ws i e p =
-    let z : 0 + length ws ≡ length ws = omega arith in
-    p ∙ rw (e, z, take_all (length ws) ws (omega arith))
 
 -- words that do not fit
 pub too_long : (ws l : List ℕ) → length l < length ws → answered 48 l ≡ answered_of ws l

@@ -1,6 +1,5 @@
 -- The C functions that lend buffers beside their answer, over the definitions of what they call.
-use Rattle.std.specs.Prelude.{Bool, not, List, ℕ, eqb}
-use Rattle.std.proofs.Math.Option.{Option}
+use Rattle.std.specs.Prelude.{Bool, not, List, ℕ, eqb, Option}
 use Rattle.container.specs.Container.{Container}
 use Rattle.container_writer.specs.Writer as writer
 use Rattle.tables.specs.Rows.{Row}

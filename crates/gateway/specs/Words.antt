@@ -1,18 +1,17 @@
 -- The words of each answer, document 01's number first; a refusal has zeroes past its argument.
-use Rattle.std.specs.Prelude.{List, [], ◌∷◌, ℕ}
+use Rattle.std.specs.Prelude.{List, [], ◌∷◌, ℕ, Result, Ok, Err}
 use Rattle.words.specs.declared.refusal.Refusal.{Refusal}
 use Rattle.state.specs.Regs.{reg}
-use Rattle.container_verify.specs.Answers.{verify_error}
-use Rattle.container.specs.Answers.{read_error, offset_answer}
+use Rattle.container_verify.specs.Answers.{invalid_refusal}
+use Rattle.container.specs.Answers.{offset_answer}
 use Rattle.container_writer.specs.Answers.{written_answer}
-use Rattle.container_verify.specs.declared.verify.Verified.{Verified}
-use Rattle.container_verify.specs.declared.verify.Verified.TheVariants as verified
-use Rattle.container.specs.declared.offsets.Offset.{Offset}
-use Rattle.container_writer.specs.declared.writer.Written.{Written}
 use Rattle.changes.specs.ChangeList.{change_list_number}
-use Rattle.changes.specs.declared.ChangeList.{ChangeList}
-use Rattle.changes.specs.declared.ChangeList.TheVariants as list
 use Rattle.interp.specs.declared.answer.Answer.{Answer}
+use Rattle.container.specs.declared.reader.Layout.{Layout}
+use Rattle.container_verify.specs.declared.verify.Invalid.{Invalid}
+use Rattle.container.specs.declared.offsets.OffsetError.{OffsetError}
+use Rattle.container_writer.specs.declared.writer.WriteError.{WriteError}
+use Rattle.changes.specs.declared.ChangeError.{ChangeError}
 
 -- a call: number, argument, fetches, used, fetched, changes, log bytes, registers 0 to 15
 abbrev pub answer_words : Answer → List ℕ
@@ -29,24 +28,22 @@ abbrev pub refused_words : Refusal → List ℕ
 refused_words a = a.number ∷ a.argument ∷ 0 ∷ 0 ∷ 0 ∷ []
 
 -- verify: number, argument, code bytes, constants, entries
-unfoldable pub verified_words : Verified → List ℕ
-verified_words (verified.Valid l) = 0 ∷ 0 ∷ l.code ∷ l.consts ∷ l.entries ∷ []
-verified_words (verified.Unreadable e) = refused_words (read_error e)
-verified_words (verified.Refused e) = refused_words (verify_error e)
+unfoldable pub verified_words : Result Layout Invalid → List ℕ
+verified_words (Ok l) = 0 ∷ 0 ∷ l.code ∷ l.consts ∷ l.entries ∷ []
+verified_words (Err e) = refused_words (invalid_refusal e)
 
 -- entry_offset: number, offset
-unfoldable pub offset_words : Offset → List ℕ
+unfoldable pub offset_words : Result ℕ OffsetError → List ℕ
 offset_words o = pair_words (offset_answer o)
 
 -- the writer: number, bytes written
-unfoldable pub written_words : Written → List ℕ
+unfoldable pub written_words : Result ℕ WriteError → List ℕ
 written_words w = pair_words (written_answer w)
 
 -- the change list: number, rows
-abbrev pub rows_in : ChangeList → ℕ
-rows_in (list.Rows n) = n
-rows_in list.BadTable = 0
-rows_in list.NoRoom = 0
+abbrev pub rows_in : Result ℕ ChangeError → ℕ
+rows_in (Ok n) = n
+rows_in (Err e) = 0
 
-unfoldable pub list_words : ChangeList → List ℕ
+unfoldable pub list_words : Result ℕ ChangeError → List ℕ
 list_words l = change_list_number l ∷ rows_in l ∷ []

@@ -1,17 +1,15 @@
 // The words of an answer, written to the front of a lent slice.
 ghost use Rattle.std.specs.Prelude.{◌≡◌, ◌≤◌, ◌<◌, length};
-ghost use Rattle.gateway.specs.Boundary.{words_into, answered, answered_of};
+ghost use Rattle.gateway.specs.Boundary.{answered, answered_of};
+ghost use Rattle.gateway.specs.Words.{pair_words};
 
-// Copies words to the front of t.
-fn copy_words(t: &mut [u64], words: &[u64])
-    requires { length words.now ≤ length t.old }
-    ensures { t.new ≡ words_into words.now t.old }
+use words::refusal::Refusal;
+
+// A refusal in the words of an answer of two.
+pub(crate) fn pair_words(why: Refusal) -> [u64; 2]
+    ensures { result ≡ pair_words why }
 {
-    let mut i = 0;
-    while i < words.len() {
-        t[i] = words[i];
-        i += 1;
-    }
+    [why.number, why.argument]
 }
 
 // Writes an answer's words where they fit, and gives the first of them; else 48.
@@ -19,9 +17,10 @@ pub(crate) fn put(t: &mut [u64], words: &[u64]) -> u32
     requires { 0 < length words.now }
     ensures { answered result t.new ≡ answered_of words.now t.old }
 {
-    if t.len() < words.len() {
+    let n = words.len();
+    if t.len() < n {
         return 48;
     }
-    copy_words(t, words);
+    t[..n].copy_from_slice(words);
     (words[0] % 0x1_0000_0000) as u32
 }

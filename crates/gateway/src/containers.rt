@@ -5,51 +5,46 @@ ghost use Rattle.container_verify.specs.Verify.{verified_of};
 ghost use Rattle.container.specs.Offsets.{offset_of};
 ghost use Rattle.container_writer.specs.Writer.{to_write};
 ghost use Rattle.gateway.specs.Boundary.{answered, answered_of, told};
-ghost use Rattle.gateway.specs.Words.{refused_words, verified_words, offset_words, written_words};
+ghost use Rattle.gateway.specs.Words.{verified_words, offset_words, written_words};
 ghost use Rattle.gateway.specs.Gateway.{writer_of};
 
-use container::offsets::Offset;
-use container_verify::verify::Verified;
-use container_writer::writer::Written;
+use super::answer::pair_words;
+use container::offsets::OffsetError;
+use container::reader::Layout;
+use container_verify::verify::Invalid;
+use container_writer::writer::WriteError;
 use words::refusal::Refusal;
 
-// A refusal in the words of verify's answer.
-fn refused_words(why: Refusal) -> [u64; 5]
-    ensures { result ≡ refused_words why }
-{
-    [why.number, why.argument, 0, 0, 0]
-}
-
-fn verified_words(v: Verified) -> [u64; 5]
+#[tactic(auto, unfolding(crate::specs::Words::verified_words))]
+fn verified_words(v: Result<Layout, Invalid>) -> [u64; 5]
     ensures { result ≡ verified_words v }
 {
     match v {
-        Verified::Valid(l) => [0, 0, l.code as u64, l.consts as u64, l.entries as u64],
-        Verified::Unreadable(e) => refused_words(e.refusal()),
-        Verified::Refused(e) => refused_words(e.refusal()),
-    }
-}
-
-fn offset_words(o: Offset) -> [u64; 2]
-    ensures { result ≡ offset_words o }
-{
-    match o {
-        Offset::At(place) => [0, place],
-        Offset::UnknownSelector => [9, 0],
-        Offset::Unreadable(e) => {
-            let why = e.refusal();
-            [why.number, why.argument]
+        Ok(l) => [0, 0, l.code as u64, l.consts as u64, l.entries as u64],
+        Err(e) => {
+            let why = Refusal::from(e);
+            [why.number, why.argument, 0, 0, 0]
         }
     }
 }
 
-fn written_words(w: Written) -> [u64; 2]
+#[tactic(auto, unfolding(crate::specs::Words::offset_words))]
+fn offset_words(o: Result<u64, OffsetError>) -> [u64; 2]
+    ensures { result ≡ offset_words o }
+{
+    match o {
+        Ok(place) => [0, place],
+        Err(e) => pair_words(Refusal::from(e)),
+    }
+}
+
+#[tactic(auto, unfolding(crate::specs::Words::written_words))]
+fn written_words(w: Result<usize, WriteError>) -> [u64; 2]
     ensures { result ≡ written_words w }
 {
     match w {
-        Written::Done(n) => [0, n as u64],
-        Written::BadList => [49, 0],
-        Written::NoRoom => [48, 0],
+        Ok(n) => [0, n as u64],
+        Err(e) => pair_words(Refusal::from(e)),
     }
 }
 

@@ -5,15 +5,17 @@ ghost use Rattle.gateway.specs.Boundary.{told};
 ghost use Rattle.gateway.specs.Words.{list_words};
 ghost use Rattle.gateway.specs.Gateway.{changes_of, is_present};
 
-use changes::ChangeList;
+use super::answer::pair_words;
+use changes::ChangeError;
+use words::refusal::Refusal;
 
-fn list_words(l: ChangeList) -> [u64; 2]
+#[tactic(auto, unfolding(crate::specs::Words::list_words))]
+fn list_words(l: Result<usize, ChangeError>) -> [u64; 2]
     ensures { result ≡ list_words l }
 {
     match l {
-        ChangeList::Rows(n) => [0, n as u64],
-        ChangeList::BadTable => [45, 0],
-        ChangeList::NoRoom => [48, 0],
+        Ok(n) => [0, n as u64],
+        Err(e) => pair_words(Refusal::from(e)),
     }
 }
 

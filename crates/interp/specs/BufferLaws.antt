@@ -1,13 +1,9 @@
 -- Buffers zeroed and a preload laid over memory. Assumes nothing.
-use Rattle.std.specs.Prelude.{◌≡◌, List, [], ◌++◌, ℕ, ◌+◌, ◌-◌, ◌≤◌, ◌<◌, length, take, drop, replicate}
-use Rattle.std.proofs.Common.{sym, ap, ◌∙◌, arith, drop_of_length-le, take_all, length-take-le}
-use Rattle.std.proofs.lemmas.List.{length-replicate}
+use Rattle.std.specs.Prelude.{◌≡◌, List, [], ◌++◌, ℕ, ◌+◌, ◌≤◌, ◌<◌, length, take, drop}
+use Rattle.std.proofs.Common.{sym, ap, ◌∙◌, arith, drop_of_length-le, take_all, length-append, length-drop, length-take-le}
+use Rattle.std.proofs.lemmas.List.{length-replicate, length-take}
 use Rattle.std.proofs.Math.Seq.{paste}
 use Rattle.interp.specs.Call.{wiped}
-
--- what is zeroed from the start on is zeroed
-pub all_wiped : (t u : List ℕ) → u ≡ take 0 t ++ replicate (length t - 0) 0 → u ≡ wiped t
-all_wiped t u e = let z : length t - 0 ≡ length t = omega arith in rw z at e
 
 module _ (mem pre u : List ℕ) where
   pub preload_short : length pre ≤ length mem → u ≡ paste mem 0 pre (length pre) → u ≡ take (length mem) pre ++ drop (length pre) mem
@@ -32,3 +28,9 @@ length_wiped l = length-replicate {A = ℕ} (length l) 0
 pub preload_wiped : (mem pre m u : List ℕ) → m ≡ wiped mem → u ≡ take (length m) pre ++ drop (length pre) m →
     u ≡ take (length mem) pre ++ drop (length pre) (wiped mem)
 preload_wiped mem pre m u z e = e ∙ (λ i. take ((ap length z ∙ length_wiped mem) i) pre ++ drop (length pre) (z i))
+
+-- memory stays as long with a preload laid over it
+pub laid_length : (mem pre : List ℕ) → length (take (length mem) pre ++ drop (length pre) (wiped mem)) ≡ length mem
+laid_length mem pre =
+    length-append (take (length mem) pre) (drop (length pre) (wiped mem))
+    ∙ omega (arith, length-take (length mem) pre, length-drop (length pre) (wiped mem), length_wiped mem)

@@ -1,5 +1,5 @@
 -- From an accepted opening to the run's start, and from its end to the call's. Assumes nothing.
-use Rattle.std.specs.Prelude.{◌≡◌, refl, Bool, true, false, ℕ, suc, ◌+◌, ◌-◌, ◌*◌, ◌/◌, ◌%◌, ◌≤◌, eqb, take, drop, replicate}
+use Rattle.std.specs.Prelude.{◌≡◌, refl, Bool, true, false, ℕ, suc, ◌+◌, ◌-◌, ◌*◌, ◌/◌, ◌%◌, ◌≤◌, eqb, take, drop, replicate, Some, None}
 use Rattle.std.proofs.Math.Path.{sym, ap}
 use Rattle.std.proofs.Common.{◌∙◌, length-drop, length-take-le}
 use mathlib.Core.List.{List, ◌++◌}
@@ -11,7 +11,6 @@ use Rattle.meter.specs.Prices.{dispatch_price}
 use Rattle.tables.specs.Rows.{rows}
 use Rattle.tables.specs.Checked.{risingb, checked_of}
 use Rattle.tables.specs.CheckTheorems.{whole_table}
-use Rattle.tables.specs.declared.check.Checked.TheVariants.{Whole, Bad}
 use Rattle.container.specs.Entries.{slots, slot_bytes}
 use Rattle.container.specs.Reader.{read_of}
 use Rattle.container.specs.declared.entries.Slots.{Slots}
@@ -33,10 +32,10 @@ use Rattle.machine.specs.declared.run.Run.{Run}
 use Rattle.opening.specs.Opening.{Lent, Opening, memory_of, env_of, machine_for, opening_read}
 use Rattle.opening.specs.Opened.{Standing}
 use Rattle.opening.specs.declared.open.Opened.{Opened}
-use Rattle.interp.specs.BufferLaws.{length_wiped}
+use Rattle.interp.specs.BufferLaws.{length_wiped, laid_length}
 use Rattle.interp.specs.Call.{wiped, called, running, ending}
 use Rattle.interp.specs.Ties.{GivenParts, parts, Suits}
-use Rattle.interp.specs.RunLaws.{Sizes}
+use Rattle.interp.specs.Held.{Sizes}
 use Rattle.interp.specs.Runs.{Begun, Starts, Runs}
 use Rattle.interp.specs.Begins.{first_run, Begins}
 use Rattle.interp.specs.Finished.{Finishes}
@@ -52,11 +51,11 @@ standing_words s l words h =
     sym h.are ∙ sym (ap (λ (k : ℕ). words_of k (slot_bytes s l)) n)
 
 -- a checked table has as many rows as fit its bytes
-whole_count : (t : List ℕ) (n : ℕ) → checked_of 40 t ≡ Whole n → length t / 40 ≡ n
+whole_count : (t : List ℕ) (n : ℕ) → checked_of 40 t ≡ Some n → length t / 40 ≡ n
 unfolding checked_of
 whole_count t n e = go (both (eqb (length t % 40) 0) (risingb 0 (rows 40 (length t / 40) t))) e
   where
-    go : (b : Bool) → pick b (Whole (length t / 40)) Bad ≡ Whole n → length t / 40 ≡ n
+    go : (b : Bool) → pick b (Some (length t / 40)) None ≡ Some n → length t / 40 ≡ n
     go true h = cc
     go false h = absurd (let z : ◌≡◌ {A = ℕ} 0 1 = cc in omega arith)
 
@@ -104,10 +103,10 @@ module _ {o : Opened} {limit : ℕ} {host : Host} {s st ld rp pre : List ℕ} {b
   abbrev env : Env
   env = env_of x.input b x.found.container x.found.entry
 
-  store_whole : checked_of 40 st ≡ Whole o.lent.store
+  store_whole : checked_of 40 st ≡ Some o.lent.store
   store_whole = rw x.store at x.found.store
 
-  loader_whole : o.lent.has_loader ≡ true → checked_of 40 ld ≡ Whole o.lent.loader
+  loader_whole : o.lent.has_loader ≡ true → checked_of 40 ld ≡ Some o.lent.loader
   loader_whole p = rw x.loader at (x.found.loader (sym x.found.has_loader ∙ p))
 
   store_is : rows 40 (length x.input.store / 40) x.input.store ≡ rows 40 o.lent.store st
@@ -117,7 +116,7 @@ module _ {o : Opened} {limit : ℕ} {host : Host} {s st ld rp pre : List ℕ} {b
       ≡ loader_of o.lent.has_loader (rows 40 o.lent.loader ld)
   loader_is = rw (← x.found.has_loader, x.loader) (go o.lent.has_loader loader_whole)
     where
-      go : (p : Bool) → (p ≡ true → checked_of 40 ld ≡ Whole o.lent.loader) →
+      go : (p : Bool) → (p ≡ true → checked_of 40 ld ≡ Some o.lent.loader) →
           loader_of p (rows 40 (length ld / 40) ld) ≡ loader_of p (rows 40 o.lent.loader ld)
       go true h = ap (λ (n : ℕ). loader_of true (rows 40 n ld)) (whole_count ld o.lent.loader (h refl))
       go false h = refl
@@ -164,8 +163,8 @@ module _ {o : Opened} {limit : ℕ} {host : Host} {s st ld rp pre : List ℕ} {b
       abbrev first : Run
       first = first_run x.found.entry.offset price x.input.limit
 
-      abbrev Mem : Type 0
-      Mem = length a.run.memory ≡ length b.run.memory
+      memory_long : length a.run.memory ≡ length b.run.memory
+      memory_long = ap length bg.memory ∙ laid_length b.run.memory pre
 
       rooms_are : rooms_of b.run.keys ≡ rooms_of a.run.keys
       rooms_are = λ i. record {
@@ -176,14 +175,14 @@ module _ {o : Opened} {limit : ℕ} {host : Host} {s st ld rp pre : List ℕ} {b
         paid = sym (ap length bg.paid ∙ length_wiped b.run.keys.paid) i;
       }
 
-      sound : Mem → Sound env rp price first a.run
+      sound : Sound env rp price first a.run
       unfolding env_of effects_of read_back log_of events
-      sound lm =
+      sound =
           let zl = zero_of a.run.log b.run.log bg.log in
           let n : length a.run.log - 0 ≡ length a.run.log = omega arith in
           record {
             sized = record {
-              memory = lm ∙ x.memory_size;
+              memory = memory_long ∙ x.memory_size;
               stack = ap length bg.stack ∙ length_wiped b.run.stack ∙ x.stack_size;
               rooms = rooms_are;
               log = sym (ap length bg.log ∙ length_wiped b.run.log);
@@ -216,11 +215,11 @@ module _ {o : Opened} {limit : ℕ} {host : Host} {s st ld rp pre : List ℕ} {b
             let f = x.found in
             j ∙ (λ i. first_run (f.offset i) ((f.used ∙ ap (λ (c : List ℕ). dispatch_price (length c)) code_is) i) (sym x.limit_is i))
 
-        begun : Mem → Begun env (given a.starts) start a.run
-        begun lm = rw start_is (record { suits = suits; none = refl; sound = sound lm })
+        begun : Begun env (given a.starts) start a.run
+        begun = rw start_is (record { suits = suits; none = refl; sound = sound })
 
-        pub starting : Mem → Starts (given a.starts) start a.run
-        starting lm = record { env = env; begun = begun lm }
+        pub starting : Starts (given a.starts) start a.run
+        starting = record { env = env; begun = begun }
 
         -- the run from the state is the machine's from the opening
         runs_are : run_of (suc (env.limit - start.meter.used)) env (machine_of rp start cleared a.run)
@@ -231,10 +230,10 @@ module _ {o : Opened} {limit : ℕ} {host : Host} {s st ld rp pre : List ℕ} {b
             ∙ ap (run_of (suc (x.input.limit - price)) env) machine_is
             ∙ ap (λ (c : List ℕ). run_of (suc (x.input.limit - dispatch_price (length c))) env (machine_for x.input x.found.container x.found.entry)) (sym code_is)
 
-        pub entered : {c z : Lent} {e : Ended} {r : Answer} → Mem → Runs (given a.starts) start a.run e c.run → Finishes e c r z →
+        pub entered : {c z : Lent} {e : Ended} {r : Answer} → Runs (given a.starts) start a.run e c.run → Finishes e c r z →
             SameSizes c b → called r z ≡ running (opening_read x.input b (read_of x.input.container)) b
         unfolding running env_of machine_for
-        entered {c} {z} {e} {r} lm run fin same =
+        entered {c} {z} {e} {r} run fin same =
             let end = run_of (suc (env.limit - start.meter.used)) env (machine_of rp start cleared a.run) in
-            fin env rp end (run env (begun lm)) ∙ ending_same end c b same ∙ ap (λ (y : End). ending y b) runs_are
+            fin env rp end (run env begun) ∙ ending_same end c b same ∙ ap (λ (y : End). ending y b) runs_are
             ∙ ap (λ (y : Opening). running y b) (sym x.found.is)

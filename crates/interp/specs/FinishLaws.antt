@@ -16,9 +16,10 @@ use Rattle.machine.specs.Machine.{Env, Machine}
 use Rattle.machine.specs.Turns.{halted, faulted}
 use Rattle.machine.specs.Sound.{Logged, machine_of}
 use Rattle.opening.specs.Opening.{Lent}
-use Rattle.interp.specs.Call.{called, refused_as, halted_as, wiped, filled, lent_as, wiped_all, kept_of}
+use Rattle.interp.specs.Call.{called, refused_as, halted_as, wiped, filled, lent_as, kept_of}
 use Rattle.interp.specs.Runs.{HaltsIn}
-use Rattle.interp.specs.Finished.{halt_answer, Finishes}
+use Rattle.interp.specs.Finished.{halt_answer, Closes}
+use Rattle.interp.specs.Wiping.{wiped_but}
 use Rattle.interp.specs.declared.answer.Answer.{Answer}
 use Rattle.interp.specs.declared.exec.Ended.{Ended}
 
@@ -38,19 +39,15 @@ log_filled n log h =
     ∙ (λ i. sym h.is i ++ sym h.rest i)
     ∙ take-append-drop n log
 
--- all but the changes and the log zeroed
-abbrev pub work_wiped : Lent → Lent
-work_wiped b =
-    let k = b.run.keys in
-    lent_as (wiped b.run.memory) (wiped b.run.stack) (tables.key_bufs k.changes (wiped k.fetched) (wiped k.may_read) (wiped k.may_write) (wiped k.paid)) b.run.log (wiped b.starts)
-
-module _ (x : Ended) (b a : Lent) (r : Answer) where
-  pub finish_faults : (x.end.number ≡ 0 → ⊥) → r ≡ refused_as x.end x.fetches → a ≡ wiped_all b → Finishes x b r a
-  finish_faults h q z e s (halted m) t = absurd (h (ap (λ (w : Refusal). w.number) t.end))
-  finish_faults h q z e s (faulted w f) t = λ i. called ((q ∙ (λ j. refused_as (t.0 j) (t.2 j))) i) (z i)
+module _ (x : Ended) (r : Answer) where
+  module _ (ch lg ch' lg' : List ℕ) where
+    pub closes_fault : (x.end.number ≡ 0 → ⊥) → r ≡ refused_as x.end x.fetches → ch' ≡ wiped ch → lg' ≡ wiped lg → Closes x ch lg r ch' lg'
+    closes_fault h q u v b c l e s (halted m) t = absurd (h (ap (λ (w : Refusal). w.number) t.end))
+    closes_fault h q u v b c l e s (faulted w f) t =
+        λ i. called ((q ∙ (λ j. refused_as (t.0 j) (t.2 j))) i) (wiped_but b ((u ∙ ap wiped (sym c)) i) ((v ∙ ap wiped (sym l)) i))
 
   -- the machine of a halt, taken from its state
-  module _ (e : Env) (s : List ℕ) (m : Machine) (t : HaltsIn e s x b.run m) where
+  module _ (b : Lent) (e : Env) (s : List ℕ) (m : Machine) (t : HaltsIn e s x b.run m) where
     answer_is : halt_answer x ≡ halted_as m
     unfolding machine_of
     answer_is =
@@ -67,7 +64,7 @@ module _ (x : Ended) (b a : Lent) (r : Answer) where
           regs = x.file;
         })
 
-    kept_is : Bytes b.run.keys.changes → work_wiped b ≡ kept_of m b
+    kept_is : Bytes b.run.keys.changes → wiped_but b b.run.keys.changes b.run.log ≡ kept_of m b
     unfolding machine_of
     kept_is all =
         let k = b.run.keys in
@@ -75,6 +72,8 @@ module _ (x : Ended) (b a : Lent) (r : Answer) where
         (λ i. lent_as (wiped b.run.memory) (wiped b.run.stack) (tables.key_bufs (sym (table_filled x.run.counts.changes k.changes all t.sound.tables.changes) i) (wiped k.fetched) (wiped k.may_read) (wiped k.may_write) (wiped k.paid))
         (sym (log_filled x.run.log b.run.log t.sound.logged) i) (wiped b.starts))
 
-  pub finish_halts : x.end.number ≡ 0 → Bytes b.run.keys.changes → r ≡ halt_answer x → a ≡ work_wiped b → Finishes x b r a
-  finish_halts h all q z e s (halted m) t = λ i. called ((q ∙ answer_is e s m t) i) ((z ∙ kept_is e s m t all) i)
-  finish_halts h all q z e s (faulted w f) t = absurd (omega (arith, h, ap (λ (y : Refusal). y.number) t.0, t.1))
+  pub closes_halt : (ch lg : List ℕ) → x.end.number ≡ 0 → Bytes ch → r ≡ halt_answer x → Closes x ch lg r ch lg
+  closes_halt ch lg h all q b c l e s (halted m) t =
+      let same : wiped_but b ch lg ≡ wiped_but b b.run.keys.changes b.run.log = λ i. wiped_but b (sym c i) (sym l i) in
+      λ i. called ((q ∙ answer_is b e s m t) i) ((same ∙ kept_is b e s m t (rw (← c) at all)) i)
+  closes_halt ch lg h all q b c l e s (faulted w f) t = absurd (omega (arith, h, ap (λ (y : Refusal). y.number) t.0, t.1))

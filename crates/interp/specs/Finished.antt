@@ -5,6 +5,7 @@ use Rattle.machine.specs.Turns.{End}
 use Rattle.opening.specs.Opening.{Lent}
 use Rattle.interp.specs.Call.{called, ending}
 use Rattle.interp.specs.Runs.{EndsAs}
+use Rattle.interp.specs.Wiping.{wiped_but}
 use Rattle.interp.specs.declared.answer.Answer.{Answer}
 use Rattle.interp.specs.declared.exec.Ended.{Ended}
 use Rattle.words.specs.Refusals.{refusal}
@@ -24,3 +25,7 @@ halt_answer x = record {
 -- whatever end it tells of, the answer and the buffers are that end's
 abbrev pub Finishes : Ended → Lent → Answer → Lent → Type 0
 Finishes x b r a = (e : Env) (s : List ℕ) (end : End) → EndsAs e s end x b.run → called r a ≡ ending end b
+
+-- the answer, and the changes and the log, of a run that ended in these, once the other buffers are zeroed
+abbrev pub Closes : Ended → (changes log : List ℕ) → Answer → (changes' log' : List ℕ) → Type 0
+Closes x ch lg r ch' lg' = (b : Lent) → b.run.keys.changes ≡ ch → b.run.log ≡ lg → Finishes x b r (wiped_but b ch' lg')

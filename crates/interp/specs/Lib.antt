@@ -9,6 +9,7 @@ pub mod Wiping
 pub mod Begins
 pub mod Finished
 pub mod Entered
+pub mod Held
 -- laws
 pub mod BufferLaws
 pub mod FetchLaws

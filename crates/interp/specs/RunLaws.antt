@@ -1,22 +1,18 @@
 -- The loop of a run: what is left to run decides, and each way out of a turn is the machine's. Assumes nothing.
 use Rattle.std.proofs.Math.Path.{◌≡◌, refl, sym, ap}
 use Rattle.std.proofs.Common.{◌∙◌}
-use Rattle.std.specs.Prelude.{true, false, List, length, set}
+use Rattle.std.specs.Prelude.{true, false, List, length, set, ℕ, Result, Ok, Err, Some, None}
 use Prim.Native.Nat.{ℕ, suc, ◌+◌, ◌-◌, ◌≤◌, ◌<◌}
 use native.Mathlib.Omega.{arith}
 use Rattle.std.proofs.Math.ListN.{length-set}
 use Rattle.std.proofs.lemmas.List.{length-replicate}
 use Rattle.words.specs.Refusals.{refusal}
-use Rattle.words.specs.declared.refusal.Refusal.{Refusal}
 use Rattle.isa.specs.Table.{price_of}
 use Rattle.isa.specs.Forms.{form_of}
 use Rattle.isa.specs.Codec.{decode_at}
 use Rattle.isa.specs.declared.instr.Instr.{Instr}
-use Rattle.isa.specs.declared.codec.Decoded.{Decoded}
 use Rattle.state.specs.Regs.{cleared}
 use Rattle.state.specs.declared.regs.RegFile.{RegFile}
-use Rattle.keys.specs.Known.{Rooms}
-use Rattle.keys.specs.Lent.{rooms_of}
 use Rattle.machine.specs.Machine.{Env, Machine}
 use Rattle.machine.specs.Steps.{Step, next, halt, fault}
 use Rattle.machine.specs.Turns.{rule_of, step_of, turn_of, end_of, run_of}
@@ -28,10 +24,12 @@ use Rattle.machine.specs.SoundLaws.{fetches_sound}
 use Rattle.machine.specs.Does.{puts, Turned}
 use Rattle.machine.specs.declared.run.Run.{Run}
 use Rattle.machine.specs.declared.turn.Turn.{Turn}
+use Rattle.state.specs.Faults.{fault_refusal}
+use Rattle.state.specs.declared.fault.Fault.{Fault}
 use Rattle.interp.specs.Fetched.{instruction_in, StepsFrom, Fetches}
 use Rattle.interp.specs.Ties.{GivenParts, Ready, Steps}
 use Rattle.interp.specs.Runs.{Begun, Starts, EndsAs, Runs}
-use Rattle.interp.specs.declared.fetch.Fetched.TheVariants.{Done, Refused}
+use Rattle.isa.specs.declared.codec.DecodeError.{DecodeError}
 
 -- as many turns as the limit allows from a run's start
 abbrev pub turns_of : Env → Run → ℕ
@@ -39,9 +37,9 @@ turns_of e r = suc (e.limit - r.meter.used)
 
 -- the instruction that a fetch takes out of what was decoded at the run's place, and the run that it steps from
 pub record Taken (code : List ℕ) (r : Run) (i : Instr) (q : Run) : Type 0 where
-  pub out : Decoded
+  pub out : Result (Instr × ℕ) DecodeError
   pub read : out ≡ decode_at code r.pc
-  pub fetched : Fetches out r (Done q)
+  pub fetched : Fetches out r (Ok q)
   pub is_in : i ≡ instruction_in out
 
 -- between turns: a sound state, sixteen registers, and the rest of the run is the whole run's
@@ -64,17 +62,6 @@ loop_begins {p} {r} {b} c = rw c (record {
 lower : (e : Env) (s : List ℕ) (d d' : ℕ) (r : Run) (b : Bufs) → Sound e s d r b → d' ≤ d → Sound e s d' r b
 lower e s d d' r b so h = fetches_sound so r.fetches d' (omega (arith, so.metered.above))
 
--- the buffers stay as long as they were
-pub record Sizes (a b : Bufs) : Type 0 where
-  pub memory : length a.memory ≡ length b.memory
-  pub stack : length a.stack ≡ length b.stack
-  pub changes : length a.keys.changes ≡ length b.keys.changes
-  pub fetched : length a.keys.fetched ≡ length b.keys.fetched
-  pub readable : length a.keys.may_read ≡ length b.keys.may_read
-  pub writable : length a.keys.may_write ≡ length b.keys.may_write
-  pub paid : length a.keys.paid ≡ length b.keys.paid
-  pub log : length a.log ≡ length b.log
-
 module _ {p : GivenParts} {r₀ : Run} {b₀ : Bufs} {r : Run} {f : RegFile} {b : Bufs} (x : Looping p r₀ b₀ r f b) where
   -- there is a turn left
   turns_left : (e : Env) (g : Begun e p r₀ b₀) → (r.fetches < turns_of e r₀) × (1 ≤ r₀.meter.used)
@@ -84,22 +71,6 @@ module _ {p : GivenParts} {r₀ : Run} {b₀ : Bufs} {r : Run} {f : RegFile} {b 
 
   pub fetch_fits : Starts p r₀ b₀ → r.fetches < r.meter.used
   fetch_fits s = let m = (x.going s.env s.begun).sound.metered in omega (arith, m.above, s.begun.sound.metered.some)
-
-  pub loop_sizes : Starts p r₀ b₀ → Sizes b b₀
-  loop_sizes s =
-      let z = (x.going s.env s.begun).sound.sized in
-      let z₀ = s.begun.sound.sized in
-      let q : rooms_of b.keys ≡ rooms_of b₀.keys = sym z.rooms ∙ z₀.rooms in
-      record {
-        memory = z.memory ∙ sym z₀.memory;
-        stack = z.stack ∙ sym z₀.stack;
-        changes = ap (λ (y : Rooms). y.changes) q;
-        fetched = ap (λ (y : Rooms). y.fetched) q;
-        readable = ap (λ (y : Rooms). y.may_read) q;
-        writable = ap (λ (y : Rooms). y.may_write) q;
-        paid = ap (λ (y : Rooms). y.paid) q;
-        log = sym z.log ∙ z₀.log;
-      }
 
   -- the run is what its next turn makes of it
   one_turn : (e : Env) (g : Begun e p r₀ b₀) (t : Step) → turn_of e (machine_of p.replies r f b) ≡ t
@@ -122,16 +93,16 @@ module _ {p : GivenParts} {r₀ : Run} {b₀ : Bufs} {r : Run} {f : RegFile} {b 
       rw z at (x.going e g).sound
 
   -- what was decoded there, as the environment has it
-  decoded_in : (o : Decoded) → o ≡ decode_at p.code r.pc → (e : Env) → Begun e p r₀ b₀ → o ≡ decode_at e.code r.pc
+  decoded_in : (o : Result (Instr × ℕ) DecodeError) → o ≡ decode_at p.code r.pc → (e : Env) → Begun e p r₀ b₀ → o ≡ decode_at e.code r.pc
   decoded_in o c e g = c ∙ ap (λ (l : List ℕ). decode_at l r.pc) (sym g.suits.code)
 
-  pub loop_refused : {o : Decoded} → o ≡ decode_at p.code r.pc → {w : Refusal} {k : ℕ} → Fetches o r (Refused w) → k ≡ r.fetches + 1
-      → Runs p r₀ b₀ (record { end = w; fetches = k; run = r; file = f }) b
+  pub loop_refused : {o : Result (Instr × ℕ) DecodeError} → o ≡ decode_at p.code r.pc → (w : Fault) {k : ℕ} → Fetches o r (Err w) → k ≡ r.fetches + 1
+      → Runs p r₀ b₀ (record { end = fault_refusal w; fetches = k; run = r; file = f }) b
   unfolding end_of
-  loop_refused {o} read {w} {k} told c e g =
+  loop_refused {o} read w {k} told c e g =
       let (q, l) = told e p.replies d f b (decoded_in o read e g) (before e g) in
       let z : k ≡ suc r.fetches = omega (arith, c) in
-      rw (one_turn e g (fault w) q) (refl, l, z)
+      rw (one_turn e g (fault (fault_refusal w)) q) (refl, l, z)
 
   -- an instruction was fetched
   module _ {i : Instr} {q : Run} (taken : Taken p.code r i q) where
@@ -150,17 +121,17 @@ module _ {p : GivenParts} {r₀ : Run} {b₀ : Bufs} {r : Run} {f : RegFile} {b 
       unfolding step_of rule_of machine_of
       came e g = (st e (d + price_of (form_of i).op) g.suits (x.going e g).regs (at e g).1).turned
 
-      pub loop_faults : (t.fault ≡ 0 → ⊥) → (y : Run) → Runs p r₀ b₀ (record { end = refusal t.fault 0; fetches = q.fetches; run = y; file = f }) a
+      pub loop_faults : (n : Fault) → t.fault ≡ Some n → (y : Run) → Runs p r₀ b₀ (record { end = fault_refusal n; fetches = q.fetches; run = y; file = f }) a
       unfolding end_of
-      loop_faults h y e g = go (step_of e i (machine_of p.replies q f b)) (at e g).0 (came e g)
+      loop_faults n h y e g = go (step_of e i (machine_of p.replies q f b)) (at e g).0 (came e g)
         where
           go : (z : Step) → turn_of e (machine_of p.replies r f b) ≡ z → Came e z
-              → EndsAs e p.replies (run_of (turns_of e r₀) e (machine_of p.replies r₀ cleared b₀)) (record { end = refusal t.fault 0; fetches = q.fetches; run = y; file = f }) a
-          go (next m) z c = absurd (h c.0)
-          go (halt m) z c = absurd (h c.0)
-          go (fault w) z c = rw (one_turn e g (fault w) z) (sym c.0, rw c.0 c.1, (at e g).2)
+              → EndsAs e p.replies (run_of (turns_of e r₀) e (machine_of p.replies r₀ cleared b₀)) (record { end = fault_refusal n; fetches = q.fetches; run = y; file = f }) a
+          go (next m) z c = let y = c.0 in absurd (let o : ◌≡◌ {A = ℕ} 0 1 = cc in omega arith)
+          go (halt m) z c = let y = c.0 in absurd (let o : ◌≡◌ {A = ℕ} 0 1 = cc in omega arith)
+          go (fault w) z c = let k = rw h at c in rw (one_turn e g (fault w) z) (sym k.0, k.1, (at e g).2)
 
-      pub loop_halts : t.fault ≡ 0 → t.halted ≡ true → {w : RegFile} → w ≡ puts t.put f → Runs p r₀ b₀ (record { end = refusal 0 0; fetches = t.run.fetches; run = t.run; file = w }) a
+      pub loop_halts : t.fault ≡ None → t.halted ≡ true → {w : RegFile} → w ≡ puts t.put f → Runs p r₀ b₀ (record { end = refusal 0 0; fetches = t.run.fetches; run = t.run; file = w }) a
       unfolding machine_of end_of
       loop_halts h k {w} u e g = go (step_of e i (machine_of p.replies q f b)) (at e g).0 (came e g)
         where
@@ -176,7 +147,7 @@ module _ {p : GivenParts} {r₀ : Run} {b₀ : Bufs} {r : Run} {f : RegFile} {b 
                 is = rw u l.is;
                 sound = lower e p.replies (d + price_of (form_of i).op) 0 t.run a l.sound (omega arith);
               })
-          go (fault y) z c = absurd (omega (arith, c.1, h))
+          go (fault y) z c = absurd (rw h at c)
 
       -- on to the next turn
       record Went (e : Env) : Type 0 where
@@ -187,7 +158,7 @@ module _ {p : GivenParts} {r₀ : Run} {b₀ : Bufs} {r : Run} {f : RegFile} {b 
         costs : 1 ≤ price_of (form_of i).op
         counts : t.run.fetches ≡ suc r.fetches
 
-      went : t.fault ≡ 0 → t.halted ≡ false → (e : Env) → Begun e p r₀ b₀ → Went e
+      went : t.fault ≡ None → t.halted ≡ false → (e : Env) → Begun e p r₀ b₀ → Went e
       unfolding machine_of step_of
       went h k e g =
           go (step_of e i (machine_of p.replies q f b)) refl (at e g).0 (came e g) (keeps e.limit q.meter.used q.fetches (rule_of e i (machine_of p.replies q f b)))
@@ -205,9 +176,9 @@ module _ {p : GivenParts} {r₀ : Run} {b₀ : Bufs} {r : Run} {f : RegFile} {b 
                 counts = ap (λ (o : Machine). o.fetches) l.is ∙ ap (λ (o : Machine). o.fetches) n.is ∙ (at e g).2;
               }
           go (halt m) y z c n = let o = c.1 in absurd (let w : ◌≡◌ {A = ℕ} 0 1 = cc in omega arith)
-          go (fault o) y z c n = absurd (omega (arith, c.1, h))
+          go (fault o) y z c n = absurd (rw h at c)
 
-      pub loop_goes : t.fault ≡ 0 → t.halted ≡ false → {w : RegFile} → w ≡ puts t.put f → Looping p r₀ b₀ t.run w a
+      pub loop_goes : t.fault ≡ None → t.halted ≡ false → {w : RegFile} → w ≡ puts t.put f → Looping p r₀ b₀ t.run w a
       unfolding d end_of
       loop_goes h k u = rw u (record {
         going = λ e g.
@@ -220,7 +191,7 @@ module _ {p : GivenParts} {r₀ : Run} {b₀ : Bufs} {r : Run} {f : RegFile} {b 
             };
       })
 
-      pub loop_shrinks : Starts p r₀ b₀ → t.fault ≡ 0 → t.halted ≡ false →
+      pub loop_shrinks : Starts p r₀ b₀ → t.fault ≡ None → t.halted ≡ false →
           suc (r₀.meter.limit - r₀.meter.used) - t.run.fetches < suc (r₀.meter.limit - r₀.meter.used) - r.fetches
       loop_shrinks s h k =
           let o = went h k s.env s.begun in

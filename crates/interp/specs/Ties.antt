@@ -11,6 +11,8 @@ use Rattle.machine.specs.declared.host.Host.{Host}
 use Rattle.state.specs.Regs.{file}
 use Rattle.isa.specs.declared.instr.Instr.{Instr}
 use Rattle.machine.specs.Machine.{Env}
+use Rattle.machine.specs.Actions.{action_of}
+use Rattle.machine.specs.declared.action.Action.{Action}
 use Rattle.machine.specs.Turns.{rule_of}
 use Rattle.machine.specs.Lent.{Bufs}
 use Rattle.machine.specs.Sound.{Sound}
@@ -70,3 +72,7 @@ pub record Ready (p : GivenParts) (r : Run) (b : Bufs) : Type 0 where
 -- a step from registers and bytes b to bytes a: in every environment of the parts it is the rule's
 abbrev pub Steps : GivenParts → Instr → Run → List ℕ → (b a : Bufs) → Turn → Type 0
 Steps p i r regs b a t = (e : Env) (d : ℕ) → Suits e p → Does e p.replies d (rule_of e i) r (file regs) b a t
+
+-- the same, of each instruction that this action is of
+abbrev pub StepsAs : GivenParts → Action → Run → List ℕ → (b a : Bufs) → Turn → Type 0
+StepsAs p o r regs b a t = (i : Instr) → o ≡ action_of i → Steps p i r regs b a t

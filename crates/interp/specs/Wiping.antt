@@ -1,12 +1,11 @@
--- Seven buffers zeroed.
-use Rattle.std.specs.Prelude.{◌≡◌, List, ℕ}
-use Rattle.interp.specs.Call.{wiped}
+-- What a run leaves zero whatever its end.
+use Rattle.std.specs.Prelude.{List, ℕ}
+use Rattle.keys.specs.Lent as tables
+use Rattle.opening.specs.Opening.{Lent}
+use Rattle.interp.specs.Call.{wiped, lent_as}
 
-pub record Wipes (memory memory' stack stack' starts starts' fetched fetched' readable readable' writable writable' paid paid' : List ℕ) : Type 0 where
-  pub memory_is : memory' ≡ wiped memory
-  pub stack_is : stack' ≡ wiped stack
-  pub starts_is : starts' ≡ wiped starts
-  pub fetched_is : fetched' ≡ wiped fetched
-  pub readable_is : readable' ≡ wiped readable
-  pub writable_is : writable' ≡ wiped writable
-  pub paid_is : paid' ≡ wiped paid
+-- every buffer zero but the changes and the log
+abbrev pub wiped_but : Lent → (changes log : List ℕ) → Lent
+wiped_but b changes log =
+    let k = b.run.keys in
+    lent_as (wiped b.run.memory) (wiped b.run.stack) (tables.key_bufs changes (wiped k.fetched) (wiped k.may_read) (wiped k.may_write) (wiped k.paid)) log (wiped b.starts)

@@ -1,9 +1,9 @@
 // What a run starts from.
 ghost use Rattle.std.specs.Prelude.{◌≡◌};
-ghost use Rattle.keys.specs.Lent as tables;
-ghost use Rattle.interp.specs.Call.{lent_as};
 ghost use Rattle.interp.specs.Begins.{first_run, Begins};
+ghost use Rattle.interp.specs.Held.{held_with, Kept};
 
+use crate::work::Work;
 use keys::counts::Counts;
 use machine::run::Run;
 use meter::Meter;
@@ -33,28 +33,14 @@ pub fn first_run(offset: u64, used: u64, limit: u64) -> Run
 }
 
 // Zeroes all working buffers, marks the code's instruction starts and loads the preload.
-pub fn begin(
-    code: &[u8],
-    preload: &[u8],
-    memory: &mut [u8],
-    stack: &mut [u64],
-    starts: &mut [u8],
-    changes: &mut [u8],
-    fetched: &mut [u8],
-    readable: &mut [u8],
-    writable: &mut [u8],
-    paid: &mut [u8],
-    log: &mut [u8],
-)
-    ensures { Begins code.now preload.now
-        (lent_as memory.old stack.old (tables.key_bufs changes.old fetched.old readable.old
-        writable.old paid.old) log.old starts.old)
-        (lent_as memory.new stack.new (tables.key_bufs changes.new fetched.new readable.new
-        writable.new paid.new) log.new starts.new) }
+pub(crate) fn begin(code: &[u8], preload: &[u8], work: &mut Work, starts: &mut [u8])
+    ensures kept { Kept work.old work.new }
+    ensures begins { Begins code.now preload.now (held_with work.old starts.old) (held_with work.new starts.new) }
 {
-    crate::buffers::wipe_work(memory, stack, starts, fetched, readable, writable, paid);
-    crate::buffers::wipe(changes);
-    crate::buffers::wipe(log);
-    starts::scan::scan(code, 65536, starts);
-    crate::buffers::preload(memory, preload);
+    crate::buffers::wipe_work(work, starts);
+    work.changes.fill(0);
+    work.log.fill(0);
+    // A call's code may end anywhere: what stands before its end is marked.
+    let _ = starts::scan::scan(code, 65536, starts);
+    crate::buffers::preload(work.memory, preload);
 }

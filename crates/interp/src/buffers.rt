@@ -1,56 +1,29 @@
 // Lent buffers cleared and filled.
 ghost use Rattle.std.specs.Prelude.{◌≡◌, ◌++◌, length, drop, take};
-ghost use Rattle.interp.specs.Call.{wiped};
-ghost use Rattle.interp.specs.Wiping.{Wipes};
+ghost use Rattle.interp.specs.Wiping.{wiped_but};
+ghost use Rattle.interp.specs.Held.{held_with, Kept};
 
-pub fn wipe(t: &mut [u8])
-    ensures { t.new ≡ wiped t.old }
-{
-    words::bytes::clear(t, 0);
-}
-
-pub fn wipe_words(t: &mut [u64])
-    ensures { t.new ≡ wiped t.old }
-{
-    let mut i = 0;
-    while i < t.len() {
-        t[i] = 0;
-        i += 1;
-    }
-}
+use crate::work::Work;
 
 // The preload over memory from its start, as far as memory reaches.
 pub fn preload(memory: &mut [u8], preload: &[u8])
     ensures { memory.new ≡ take (length memory.old) preload.now ++ drop (length preload.now)
         memory.old }
 {
-    let n = memory.len();
-    if preload.len() <= n {
-        words::bytes::copy_in(memory, 0, preload);
-    } else {
-        words::bytes::copy_in(memory, 0, &preload[..n]);
-    }
+    let n = preload.len().min(memory.len());
+    memory[..n].copy_from_slice(&preload[..n]);
 }
 
 // All that a run leaves zero whatever its end: memory, stack, map, and the four tables that are not handed on.
-pub fn wipe_work(
-    memory: &mut [u8],
-    stack: &mut [u64],
-    starts: &mut [u8],
-    fetched: &mut [u8],
-    readable: &mut [u8],
-    writable: &mut [u8],
-    paid: &mut [u8],
-)
-    ensures { Wipes memory.old memory.new stack.old stack.new starts.old starts.new
-        fetched.old fetched.new readable.old readable.new writable.old writable.new
-        paid.old paid.new }
+pub(crate) fn wipe_work(work: &mut Work, starts: &mut [u8])
+    ensures kept { Kept work.old work.new }
+    ensures wiped { held_with work.new starts.new ≡ wiped_but (held_with work.old starts.old) work.old.changes.now work.old.log.now }
 {
-    wipe(memory);
-    wipe_words(stack);
-    wipe(starts);
-    wipe(fetched);
-    wipe(readable);
-    wipe(writable);
-    wipe(paid);
+    work.memory.fill(0);
+    work.stack.fill(0);
+    starts.fill(0);
+    work.fetched.fill(0);
+    work.readable.fill(0);
+    work.writable.fill(0);
+    work.paid.fill(0);
 }

@@ -6,20 +6,17 @@ ghost use Rattle.opening.specs.Opened.{input_of};
 ghost use Rattle.interp.specs.Call.{lent_as, called, call_of};
 
 use crate::answer::Answer;
-use opening::open::{Call, OpenAnswer};
+use crate::program::Input;
+use crate::work::Work;
+use opening::open::Call;
+use state::fault::Fault;
 use words::refusal::Refusal;
 
 // Memory of 65536 bytes, a stack of 1024 words, a map of 8192 bytes.
 fn sizes_fit(memory: usize, stack: usize, starts: usize) -> bool
     ensures { result ≡ both (eqb memory 65536) (both (eqb stack 1024) (eqb starts 8192)) }
 {
-    if memory != 65536 {
-        return false;
-    }
-    if stack != 1024 {
-        return false;
-    }
-    starts == 8192
+    memory == 65536 && stack == 1024 && starts == 8192
 }
 
 // The call's answer; a refused opening touches nothing.
@@ -52,20 +49,30 @@ pub fn run(
         log.old starts.old) }
 {
     if !sizes_fit(memory.len(), stack.len(), starts.len()) {
-        return crate::answer::refused(
-            Refusal {
-                number: 44,
-                argument: 0,
-            },
-            0,
-        );
+        return crate::answer::refused(Refusal::from(Fault::BadBuffer), 0);
     }
-    let o = opening::open::open(call, container, store, loader, replies);
-    match o {
-        OpenAnswer::Done(x) => crate::enter::enter(
-            x, call.limit, call.host, container, store, loader, replies, preload, memory, stack,
-            starts, changes, fetched, readable, writable, paid, log,
-        ),
-        OpenAnswer::Refused(end) => crate::answer::refused(end, 0),
+    match opening::open::open(call, container, store, loader, replies) {
+        Ok(x) => {
+            let input = Input {
+                call,
+                container,
+                store,
+                loader,
+                replies,
+                preload,
+            };
+            let mut work = Work {
+                memory,
+                stack,
+                changes,
+                fetched,
+                readable,
+                writable,
+                paid,
+                log,
+            };
+            crate::enter::enter(x, input, &mut work, starts)
+        }
+        Err(end) => crate::answer::refused(end, 0),
     }
 }

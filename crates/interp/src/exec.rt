@@ -1,13 +1,11 @@
 // The run: turn after turn, the registers a local of the loop.
 ghost use Rattle.std.specs.Prelude.{◌≡◌};
 ghost use Rattle.machine.specs.Does.{puts};
-ghost use Rattle.machine.specs.Lent.{lent_to};
-ghost use Rattle.interp.specs.Ties.{parts};
 ghost use Rattle.interp.specs.Runs.{Starts, Runs};
+ghost use Rattle.interp.specs.Held.{parts_of, held, Kept};
 
-use crate::fetch::Fetched;
-use keys::look::TableRows;
-use machine::host::Host;
+use crate::program::Program;
+use crate::work::Work;
 use machine::run::Run;
 use machine::turn::Put;
 use state::regs::RegFile;
@@ -30,85 +28,31 @@ fn put(file: RegFile, p: Put) -> RegFile
     f.set_reg(p.e, p.w)
 }
 
-pub(crate) fn exec(
-    start: Run,
-    lent: TableRows,
-    host: Host,
-    code: &[u8],
-    consts: &[u8],
-    reads: &[u8],
-    writes: &[u8],
-    keyed_reads: &[u8],
-    keyed_writes: &[u8],
-    store: &[u8],
-    loader: &[u8],
-    replies: &[u8],
-    starts: &[u8],
-    memory: &mut [u8],
-    stack: &mut [u64],
-    changes: &mut [u8],
-    fetched: &mut [u8],
-    readable: &mut [u8],
-    writable: &mut [u8],
-    paid: &mut [u8],
-    log: &mut [u8],
-) -> Ended
-    requires { Starts (parts code.now consts.now reads.now writes.now keyed_reads.now keyed_writes.now store.now loader.now
-        replies.now starts.now lent host) start (lent_to memory.old stack.old changes.old fetched.old readable.old writable.old paid.old
-        log.old) }
-    ensures { Runs (parts code.now consts.now reads.now writes.now keyed_reads.now
-        keyed_writes.now store.now loader.now replies.now starts.now lent host) start
-        (lent_to memory.old stack.old changes.old fetched.old readable.old writable.old
-        paid.old log.old) result (lent_to memory.new stack.new changes.new fetched.new
-        readable.new writable.new paid.new log.new) }
+#[tactic(auto, using(crate::specs::RunLaws::fetch_fits))]
+pub(crate) fn exec(start: Run, program: Program, work: &mut Work) -> Ended
+    requires { Starts (parts_of program) start (held work.old) }
+    ensures kept { Kept work.old work.new }
+    ensures runs { Runs (parts_of program.entry) start (held work.old) result (held work.new) }
 {
     let mut file = RegFile::new();
     let mut run = start;
     loop {
-        let d = isa::codec::decode(code, run.pc as usize);
-        let f = crate::fetch::fetch(d, run);
-        match f {
-            Fetched::Refused(end) => {
+        let d = isa::codec::decode(program.code, run.pc as usize);
+        match crate::fetch::fetch(d, run) {
+            Err(fault) => {
                 return Ended {
-                    end,
+                    end: Refusal::from(fault),
                     fetches: run.fetches + 1,
                     run,
                     file,
                 };
             }
-            Fetched::Done(q) => {
+            Ok(q) => {
                 let i = crate::fetch::instruction(d);
-                let t = crate::step::step(
-                    i,
-                    q,
-                    &file.r,
-                    lent,
-                    host,
-                    code,
-                    consts,
-                    reads,
-                    writes,
-                    keyed_reads,
-                    keyed_writes,
-                    store,
-                    loader,
-                    replies,
-                    starts,
-                    memory,
-                    stack,
-                    changes,
-                    fetched,
-                    readable,
-                    writable,
-                    paid,
-                    log,
-                );
-                if t.fault != 0 {
+                let t = crate::step::step(i, q, &file.r, program, work);
+                if let Some(fault) = t.fault {
                     return Ended {
-                        end: Refusal {
-                            number: t.fault,
-                            argument: 0,
-                        },
+                        end: Refusal::from(fault),
                         fetches: q.fetches,
                         run: q,
                         file,
@@ -118,10 +62,7 @@ pub(crate) fn exec(
                 run = t.run;
                 if t.halted {
                     return Ended {
-                        end: Refusal {
-                            number: 0,
-                            argument: 0,
-                        },
+                        end: Refusal::numbered(0),
                         fetches: run.fetches,
                         run,
                         file,

@@ -1,68 +1,46 @@
 // Fetching an instruction: what decode said of it, its base price, the next address.
-ghost use Rattle.std.specs.Prelude.{◌≡◌, ◌+◌, ◌<◌};
+ghost use Rattle.std.specs.Prelude.{◌≡◌, ◌+◌, ◌<◌, Ok};
 ghost use Rattle.interp.specs.Fetched.{instruction_in, DecodedAt, Onward, Fetches};
-ghost use Rattle.isa.specs.declared.codec.Decoded.TheVariants as Decoded;
 
-use isa::codec::Decoded;
+use isa::codec::DecodeError;
 use isa::instr::Instr;
-use machine::run::{Paid, Run};
-use words::refusal::Refusal;
-
-// The run that the instruction steps from; or why there is none.
-#[derive(Clone, Copy)]
-pub enum Fetched {
-    Done(Run),
-    Refused(Refusal),
-}
+use machine::run::Run;
+use state::fault::Fault;
 
 // The price is paid and the next address is below 2^32.
-fn onward(i: Instr, n: usize, run: Run) -> Fetched
+fn onward(i: Instr, n: usize, run: Run) -> Result<Run, Fault>
     requires { run.pc + n < 18446744073709551616 }
-    ensures { Onward (Decoded.Done i n) run result }
+    ensures { Onward (Ok (i, n)) run result }
 {
-    let Paid::Done(paid) = run.pay(i.opcode().price()) else {
-        return Fetched::Refused(Refusal {
-            number: 1,
-            argument: 0,
-        });
+    let Some(paid) = run.pay(i.opcode().price()) else {
+        return Err(Fault::OutOfMeter);
     };
     let next = run.pc + n as u64;
     if 4294967296 <= next {
-        return Fetched::Refused(Refusal {
-            number: 7,
-            argument: 0,
-        });
+        return Err(Fault::BadJump);
     }
     let mut at = paid;
     at.pc = next;
-    Fetched::Done(at)
+    Ok(at)
 }
 
 // What was decoded at the run's place. It counts as fetched whatever comes of it.
-pub(crate) fn fetch(d: Decoded, run: Run) -> Fetched
+pub(crate) fn fetch(d: Result<(Instr, usize), DecodeError>, run: Run) -> Result<Run, Fault>
     requires { (run.fetches < run.meter.used) × DecodedAt d run }
     ensures { Fetches d run result }
 {
-    let Decoded::Done(i, n) = d else {
-        let Decoded::Refused(e) = d else {
-            return Fetched::Refused(Refusal {
-                number: 17,
-                argument: 0,
-            });
-        };
-        return Fetched::Refused(e.refusal());
-    };
+    let (i, n) = d?;
     let mut counted = run;
     counted.fetches = run.fetches + 1;
     onward(i, n, counted)
 }
 
 // The instruction that was decoded, taken out where it is stepped with: inside `Fetched` it would go through memory once more.
-pub fn instruction(d: Decoded) -> Instr
+pub fn instruction(d: Result<(Instr, usize), DecodeError>) -> Instr
     ensures { result ≡ instruction_in d }
 {
     match d {
-        Decoded::Done(i, _) => i,
-        Decoded::Refused(_) => Instr::Halt,
+        Ok((i, _)) => i,
+        Err(_) => Instr::Halt,
     }
 }

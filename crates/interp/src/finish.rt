@@ -1,11 +1,11 @@
 // What a run leaves.
 ghost use Rattle.std.specs.Prelude.{◌≡◌};
-ghost use Rattle.keys.specs.Lent as tables;
-ghost use Rattle.interp.specs.Call.{lent_as};
-ghost use Rattle.interp.specs.Finished.{halt_answer, Finishes};
+ghost use Rattle.interp.specs.Finished.{halt_answer, Finishes, Closes};
+ghost use Rattle.interp.specs.Held.{held_with, Kept};
 
 use crate::answer::Answer;
 use crate::exec::Ended;
+use crate::work::Work;
 use words::refusal::Refusal;
 
 // The answer of a halt.
@@ -17,10 +17,7 @@ fn halted(x: Ended) -> Answer
     let meter = run.meter;
     let file = x.file;
     Answer {
-        end: Refusal {
-            number: 0,
-            argument: 0,
-        },
+        end: Refusal::numbered(0),
         fetches: x.fetches,
         used: meter.used,
         fetched: rows.fetched as u64,
@@ -30,31 +27,25 @@ fn halted(x: Ended) -> Answer
     }
 }
 
-// Zeroes all working buffers; after a halt all but the changes and the log.
-pub fn finish(
-    x: Ended,
-    memory: &mut [u8],
-    stack: &mut [u64],
-    starts: &mut [u8],
-    changes: &mut [u8],
-    fetched: &mut [u8],
-    readable: &mut [u8],
-    writable: &mut [u8],
-    paid: &mut [u8],
-    log: &mut [u8],
-) -> Answer
-    ensures { Finishes x (lent_as memory.old stack.old
-        (tables.key_bufs changes.old fetched.old readable.old writable.old paid.old) log.old
-        starts.old) result (lent_as memory.new stack.new
-        (tables.key_bufs changes.new fetched.new readable.new writable.new paid.new) log.new
-        starts.new) }
+// Zeroes both after a fault; after a halt both stay. Lent as slices: of a slice it is known that it holds bytes.
+#[tactic(auto, using(crate::specs::FinishLaws::closes_fault, crate::specs::FinishLaws::closes_halt))]
+fn close(x: Ended, changes: &mut [u8], log: &mut [u8]) -> Answer
+    ensures { Closes x changes.old log.old result changes.new log.new }
 {
-    crate::buffers::wipe_work(memory, stack, starts, fetched, readable, writable, paid);
     let end = x.end;
     if end.number != 0 {
-        crate::buffers::wipe(changes);
-        crate::buffers::wipe(log);
+        changes.fill(0);
+        log.fill(0);
         return crate::answer::refused(end, x.fetches);
     }
     halted(x)
+}
+
+// Zeroes all working buffers; after a halt all but the changes and the log.
+pub(crate) fn finish(x: Ended, work: &mut Work, starts: &mut [u8]) -> Answer
+    ensures kept { Kept work.old work.new }
+    ensures finishes { Finishes x (held_with work.old starts.old) result (held_with work.new starts.new) }
+{
+    crate::buffers::wipe_work(work, starts);
+    close(x, work.changes, work.log)
 }

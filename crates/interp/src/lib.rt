@@ -9,5 +9,7 @@ mod enter;
 mod exec;
 mod fetch;
 mod finish;
+mod program;
 mod registers;
 mod step;
+mod work;

@@ -1,10 +1,9 @@
 -- What holds of each opcode by computation: it is found by its byte, and an instruction put together of it has the form that it keeps. Assumes nothing.
-use Rattle.std.specs.Prelude.{ℕ, zero, suc, ◌≡◌, refl, List, [], ◌∷◌, eqb}
+use Rattle.std.specs.Prelude.{ℕ, zero, suc, ◌≡◌, refl, List, [], ◌∷◌, eqb, Some}
 use Rattle.words.specs.Choice.{pick}
 use Rattle.words.specs.Lists.{nth}
 use Rattle.isa.specs.declared.opcode.OpCode.{OpCode}
 use Rattle.isa.specs.declared.opcode.OpCode.TheVariants as op
-use Rattle.isa.specs.declared.opcode.OpByte.TheVariants.{Known}
 use Rattle.isa.specs.Table.{row_of, byte_of, regs_of, wide_of, op_with, op_at}
 use Rattle.isa.specs.Forms.{Form, form, form_of, instr_of}
 
@@ -17,10 +16,10 @@ from k (suc n) r = nth r k ∷ from (suc k) n r
 abbrev pub kept : OpCode → List ℕ → ℕ → Form
 kept o r n = form o (from 0 (regs_of o) r) (pick (eqb (wide_of o) 0) 0 n)
 
-pub computed : (o : OpCode) → (op_at (byte_of o) ≡ Known o) × ((r : List ℕ) (n : ℕ) → form_of (instr_of o r n) ≡ kept o r n)
+pub computed : (o : OpCode) → (op_at (byte_of o) ≡ Some o) × ((r : List ℕ) (n : ℕ) → form_of (instr_of o r n) ≡ kept o r n)
 unfolding row_of op_with op_at form_of instr_of
 computed o =
-    elim o as (λ (o : OpCode). (op_at (byte_of o) ≡ Known o) × ((r : List ℕ) (n : ℕ) → form_of (instr_of o r n) ≡ kept o r n)) [
+    elim o as (λ (o : OpCode). (op_at (byte_of o) ≡ Some o) × ((r : List ℕ) (n : ℕ) → form_of (instr_of o r n) ≡ kept o r n)) [
       | op.Halt ↦ (refl, λ r n. refl)
       | op.Nop ↦ (refl, λ r n. refl)
       | op.Mov ↦ (refl, λ r n. refl)

@@ -1,18 +1,18 @@
 -- What the proof of two reads through one Cursor cites. Assumes nothing.
-use Rattle.std.specs.Prelude.{ℕ, ◌≡◌, List}
+use Rattle.std.specs.Prelude.{ℕ, ◌≡◌, List, Result}
 use Rattle.std.proofs.Common.{ap, ◌∙◌}
 use Rattle.std.specs.Borrow.{Bor}
-use Rattle.isa.specs.declared.codec.GotByte.{GotByte}
 use Rattle.isa.specs.declared.codec.ReadAt.{ReadAt}
 use Rattle.isa.specs.declared.cursor.Cursor.{Cursor}
 use Rattle.isa.specs.declared.cursor.TwoReads.{TwoReads}
 use Rattle.isa.specs.Reads.{reads, byte_read, reg_read}
 use Rattle.isa.specs.Cursor.{cursor_at, CursorReads, then_reg, byte_then_reg}
+use Rattle.isa.specs.declared.codec.DecodeError.{DecodeError}
 
-abbrev pub two_reads : GotByte → GotByte → ℕ → TwoReads
+abbrev pub two_reads : Result ℕ DecodeError → Result ℕ DecodeError → ℕ → TwoReads
 two_reads b r n = record { byte = b; reg = r; at = n }
 
-pub two_reads_lem : (s : Bor (List ℕ)) (n : ℕ) (c d e : Cursor) (b r : GotByte) → c ≡ cursor_at s n → CursorReads byte_read c d b → CursorReads reg_read d e r →
+pub two_reads_lem : (s : Bor (List ℕ)) (n : ℕ) (c d e : Cursor) (b r : Result ℕ DecodeError) → c ≡ cursor_at s n → CursorReads byte_read c d b → CursorReads reg_read d e r →
     two_reads b r e.at ≡ byte_then_reg s.now n
 two_reads_lem s n c d e b r made first second =
     let held : d.code ≡ s = first.0 ∙ ap (λ (x : Cursor). x.code) made in

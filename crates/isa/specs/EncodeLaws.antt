@@ -1,5 +1,5 @@
 -- What encoding answers and leaves in the output, from what the code finds on its way. Assumes nothing.
-use Rattle.std.specs.Prelude.{ℕ, ◌+◌, ◌≤◌, ◌<◌, ◌≡◌, List, [], ◌∷◌, ◌++◌, length, take, drop, set}
+use Rattle.std.specs.Prelude.{ℕ, ◌+◌, ◌≤◌, ◌<◌, ◌≡◌, List, [], ◌∷◌, ◌++◌, length, take, drop, set, Some, None, Result, Ok, Err}
 use Rattle.std.proofs.Math.Path.{refl, ap}
 use Rattle.std.proofs.Common.{sym, ◌∙◌, arith, length-append, length-set, drop-drop, drop-set-lt, take_all, length-take-le, le-leb}
 use Rattle.std.proofs.Math.Seq.{paste}
@@ -11,14 +11,12 @@ use Rattle.isa.specs.declared.opcode.OpRow.{OpRow}
 use Rattle.isa.specs.declared.instr.Instr.{Instr}
 use Rattle.isa.specs.declared.instr.Parts.{Parts}
 use Rattle.isa.specs.declared.codec.EncodeError.TheVariants.{BadRegister, NoRoom}
-use Rattle.isa.specs.declared.codec.Encoded.{Encoded}
-use Rattle.isa.specs.declared.codec.Encoded.TheVariants.{Done, Refused}
-use Rattle.isa.specs.declared.codec.FirstBad.TheVariants.{Bad, NoneBad}
 use Rattle.isa.specs.Table.{row_of, length_of, regs_of, wide_of}
 use Rattle.isa.specs.TableLaws.{row_bounds}
 use Rattle.isa.specs.Forms.{form_of, padded, six}
 use Rattle.isa.specs.FormLaws.{length_regs, from_take, from_from}
 use Rattle.isa.specs.Codec.{instr_bytes, first_bad, encoded_with, encoded_of, output_after, output_of}
+use Rattle.isa.specs.declared.codec.EncodeError.{EncodeError}
 
 -- a byte, then registers, then a number's bytes, each laid over what stood there
 module _ (out r : List ℕ) (byte n w v : ℕ) (h : 1 + n + w ≤ length out) (hr : n ≤ length r) where
@@ -69,29 +67,29 @@ module _ (i : Instr) (p : Parts) (row : OpRow) (ep : p ≡ padded (form_of i)) (
 
 module _ (i : Instr) (out : List ℕ) where
   -- an answer, with the output that goes with it
-  pub record Answers (a : Encoded) (e : List ℕ) : Type 0 where
+  pub record Answers (a : Result ℕ EncodeError) (e : List ℕ) : Type 0 where
     pub answer : a ≡ encoded_of i out
     pub output : e ≡ output_of i out
 
-  by : (a : Encoded) (e : List ℕ) → a ≡ encoded_of i out → e ≡ output_after a (instr_bytes i) out → Answers a e
+  by : (a : Result ℕ EncodeError) (e : List ℕ) → a ≡ encoded_of i out → e ≡ output_after a (instr_bytes i) out → Answers a e
   unfolding output_of
-  by a e p q = record { answer = p; output = q ∙ ap (λ (x : Encoded). output_after x (instr_bytes i) out) p }
+  by a e p q = record { answer = p; output = q ∙ ap (λ (x : Result ℕ EncodeError). output_after x (instr_bytes i) out) p }
 
-  pub encoded_bad : (b : ℕ) → first_bad (form_of i).regs ≡ Bad b → Answers (Refused (BadRegister b)) out
+  pub encoded_bad : (b : ℕ) → first_bad (form_of i).regs ≡ Some b → Answers (Err (BadRegister b)) out
   unfolding encoded_of encoded_with output_after
-  encoded_bad b h = by (Refused (BadRegister b)) out (rw h) refl
+  encoded_bad b h = by (Err (BadRegister b)) out (rw h) refl
 
-  module _ (p : Parts) (row : OpRow) (ep : p ≡ padded (form_of i)) (er : row ≡ row_of p.0) (h : first_bad (form_of i).regs ≡ NoneBad) where
-    size_decides : encoded_with NoneBad (1 + row.1 + row.2) (length out) ≡ encoded_of i out
+  module _ (p : Parts) (row : OpRow) (ep : p ≡ padded (form_of i)) (er : row ≡ row_of p.0) (h : first_bad (form_of i).regs ≡ None) where
+    size_decides : encoded_with None (1 + row.1 + row.2) (length out) ≡ encoded_of i out
     unfolding encoded_of
     size_decides = rw (h, length_bytes i, row_is i p row ep er)
 
-    pub encoded_no_room : length out < 1 + row.1 + row.2 → Answers (Refused NoRoom) out
+    pub encoded_no_room : length out < 1 + row.1 + row.2 → Answers (Err NoRoom) out
     unfolding encoded_with output_after
-    encoded_no_room l = by (Refused NoRoom) out (sym (rw (lt-leb (1 + row.1 + row.2) (length out) l)) ∙ size_decides) refl
+    encoded_no_room l = by (Err NoRoom) out (sym (rw (lt-leb (1 + row.1 + row.2) (length out) l)) ∙ size_decides) refl
 
     pub encoded_done : 1 + row.1 + row.2 ≤ length out → (e : List ℕ) →
-        e ≡ (row.0 ∷ take row.1 p.1 ++ be_bytes row.2 p.2) ++ drop (1 + row.1 + row.2) out → Answers (Done (1 + row.1 + row.2)) e
+        e ≡ (row.0 ∷ take row.1 p.1 ++ be_bytes row.2 p.2) ++ drop (1 + row.1 + row.2) out → Answers (Ok (1 + row.1 + row.2)) e
     unfolding encoded_with output_after instr_bytes
     encoded_done l e q =
-        by (Done (1 + row.1 + row.2)) e (sym (rw (le-leb (1 + row.1 + row.2) (length out) l)) ∙ size_decides) (q ∙ rw (regs_are i p row ep er, row_is i p row ep er, ep))
+        by (Ok (1 + row.1 + row.2)) e (sym (rw (le-leb (1 + row.1 + row.2) (length out) l)) ∙ size_decides) (q ∙ rw (regs_are i p row ep er, row_is i p row ep er, ep))

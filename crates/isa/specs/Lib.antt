@@ -18,7 +18,6 @@ pub mod ComputedLaws
 pub mod TableLaws
 pub mod FormLaws
 pub mod PriceLaws
-pub mod ReadsLaws
 pub mod CursorLaws
 pub mod DecodeLaws
 pub mod ShapeLaws

@@ -1,5 +1,5 @@
 -- Every instruction but Halt has a base price. Assumes nothing.
-use Rattle.std.specs.Prelude.{◌≡◌, refl, Bool, true, false, ◌≤◌, eqb, ltb}
+use Rattle.std.specs.Prelude.{◌≡◌, refl, Bool, true, false, ◌≤◌, eqb, ltb, Some}
 use Rattle.std.proofs.Common.{sym, ap, ◌∙◌, eqb-true, ltb-true}
 use Rattle.words.specs.Choice.{either}
 use Rattle.isa.specs.Table.{row_of, byte_of, price_of, op_with, op_at}
@@ -8,7 +8,6 @@ use Rattle.isa.specs.TableLaws.{tests, known}
 use Rattle.isa.specs.FormLaws.{rebuilt}
 use Rattle.isa.specs.declared.opcode.OpCode.{OpCode}
 use Rattle.isa.specs.declared.opcode.OpCode.TheVariants as op
-use Rattle.isa.specs.declared.opcode.OpByte.TheVariants.{Known}
 use Rattle.isa.specs.declared.instr.Instr.{Instr}
 use Rattle.isa.specs.declared.instr.Instr.TheVariants as instr
 
@@ -22,7 +21,7 @@ all_cost = tests costs refl
 
 zero_halts : (o : OpCode) → byte_of o ≡ 0 → o ≡ op.Halt
 unfolding op_at op_with row_of
-zero_halts o e = let h : Known op.Halt ≡ Known o = ap op_at (sym e) ∙ known o in cc
+zero_halts o e = let h : Some op.Halt ≡ Some o = ap op_at (sym e) ∙ known o in cc
 
 halts : (i : Instr) → (form_of i).op ≡ op.Halt → i ≡ instr.Halt
 unfolding instr_of

@@ -1,29 +1,20 @@
 -- What the proofs of decoding by shape cite. Assumes nothing.
-use Prim.Native.Nat.{ℕ, suc, ◌+◌, ◌-◌, ◌≤◌, ◌<◌}
+use Prim.Native.Nat.{ℕ, ◌+◌, ◌≤◌}
 use Rattle.std.proofs.Math.Path.{◌≡◌, refl, ap}
 use Rattle.std.proofs.Common.{sym, subst, ◌∙◌}
-use Rattle.std.specs.Prelude.{List, [], Bool, T, ltb, length, get_or, take, drop}
+use Rattle.std.specs.Prelude.{List, [], Bool, T, length, take, drop, ℕ, Option, Some, None, Result, Ok, Err, IsErrAnd}
 use Rattle.std.proofs.Math.Bool.{true, false}
-use Rattle.std.proofs.Math.Option.{Option, some, none}
 use native.Mathlib.Omega.{arith}
-use Rattle.std.proofs.Math.Numerals.{add-one}
 use Rattle.std.proofs.Math.Dec.{leb, eqb}
-use Rattle.std.proofs.Math.ListN.{length-drop}
-use Rattle.std.proofs.Math.Seq.{drop-cons}
 use mir.Val.{has_key}
 use types.Run.{OneOf, hit}
-use borrow.Author.Tests.{le-leb, lt-leb, leb-true, eq-eqb, eqb-true}
+use borrow.Author.Tests.{le-leb, leb-true, eq-eqb, eqb-true}
 use Rattle.words.specs.Choice.{pick, both, either}
 use Rattle.words.specs.Bytes.{num}
 use Rattle.isa.specs.declared.opcode.OpCode.{OpCode}
 use Rattle.isa.specs.declared.opcode.OpRow.{OpRow}
 use Rattle.isa.specs.declared.instr.Instr.{Instr}
 use Rattle.isa.specs.declared.codec.DecodeError.{DecodeError}
-use Rattle.isa.specs.declared.codec.DecodeError.TheVariants.{BadRegister}
-use Rattle.isa.specs.declared.codec.Decoded.{Decoded}
-use Rattle.isa.specs.declared.codec.Decoded.TheVariants.{Done}
-use Rattle.isa.specs.declared.codec.FirstBad.{FirstBad}
-use Rattle.isa.specs.declared.codec.FirstBad.TheVariants.{Bad, NoneBad}
 use Rattle.isa.specs.Table.{row_of, byte_of, regs_of, wide_of, opcodes}
 use Rattle.isa.specs.TableLaws.{all_of, tests_where, same_byte}
 use Rattle.isa.specs.Forms.{instr_of}
@@ -31,60 +22,47 @@ use Rattle.isa.specs.ComputedLaws.{from}
 use Rattle.isa.specs.FormLaws.{own_regs}
 use Rattle.isa.specs.Codec.{first_bad, refusal_in, unless, operands_of}
 use Rattle.isa.specs.DecodeLaws.{refusal_by, refusal_is}
-use Rattle.isa.specs.Shapes.{Shape, is_none, refused_by}
+use Rattle.isa.specs.Shapes.{Shape, told}
 
--- ---- whether operands stand: what is left of the registers decides
+-- ---- whether operands stand
 
-module _ (n w i : ℕ) (s : List ℕ) where
-  pub stands_turn : i < n → i < length s →
-      refusal_in (n - i) w (drop i s) ≡ pick (ltb (get_or s i 0) 16) (refusal_in (n - (i + 1)) w (drop (i + 1) s)) (some (BadRegister (get_or s i 0)))
-  unfolding refusal_in
-  stands_turn h l =
-      let j : n - i ≡ suc (n - (i + 1)) = omega arith in
-      rw (j, add-one i, drop-cons s i 0 l)
+pub operands_told : (n w : ℕ) (s : List ℕ) (f : Option ℕ) (t : Bool) → first_bad (take n s) ≡ f → leb (n + w) (length s) ≡ t →
+    told (refusal_by f t) ≡ told (refusal_in n w s)
+operands_told n w s f t e k = rw (refusal_is n w s, e, k)
 
-  pub stands_end : n ≤ i → i + w ≤ length s → refusal_in (n - i) w (drop i s) ≡ none
-  unfolding refusal_in
-  stands_end h l =
-      let j : n - i ≡ 0 = omega arith in
-      rw (j, le-leb w (length (drop i s)) (rw length-drop (omega arith)))
+none_told : (x : Option DecodeError) → Ok tt ≡ told x → x ≡ None
+none_told None e = refl
+none_told (Some x) e = absurd (let z : ◌≡◌ {A = ℕ} 0 1 = cc in omega arith)
 
-pub stands_not : (n w : ℕ) (s : List ℕ) → length s < n + w → is_none (refusal_in n w s) ≡ false
-stands_not n w s h = rw (refusal_is n w s, lt-leb (n + w) (length s) h) (by (first_bad (take n s)))
+pub operands_room : (n w : ℕ) (s : List ℕ) → Ok tt ≡ told (refusal_in n w s) → n + w ≤ length s
+operands_room n w s h = by (first_bad (take n s)) (leb (n + w) (length s)) refl (sym (none_told (refusal_in n w s) h) ∙ refusal_is n w s)
   where
-    by : (f : FirstBad) → is_none (refusal_by f false) ≡ false
-    by (Bad b) = refl
-    by NoneBad = refl
-
-none_is : (x : Option DecodeError) → is_none x ≡ true → x ≡ none
-none_is none e = refl
-none_is (some x) e = absurd (let z : ◌≡◌ {A = ℕ} 0 1 = cc in omega arith)
-
-pub stands_room : (n w : ℕ) (s : List ℕ) → is_none (refusal_in n w s) ≡ true → n + w ≤ length s
-stands_room n w s h = by (first_bad (take n s)) (leb (n + w) (length s)) refl (rw (refusal_is n w s) at h)
-  where
-    by : (f : FirstBad) (t : Bool) → leb (n + w) (length s) ≡ t → is_none (refusal_by f t) ≡ true → n + w ≤ length s
+    by : (f : Option ℕ) (t : Bool) → leb (n + w) (length s) ≡ t → None ≡ refusal_by f t → n + w ≤ length s
     by f true e k = leb-true (n + w) (length s) e
-    by (Bad b) false e k = absurd (let z : ◌≡◌ {A = ℕ} 0 1 = cc in omega arith)
-    by NoneBad false e k = absurd (let z : ◌≡◌ {A = ℕ} 0 1 = cc in omega arith)
+    by (Some b) false e k = absurd (let z : ◌≡◌ {A = ℕ} 0 1 = cc in omega arith)
+    by None false e k = absurd (let z : ◌≡◌ {A = ℕ} 0 1 = cc in omega arith)
 
 -- ---- what the operands of an opcode of a shape say
 
 module _ (o : OpCode) (s : List ℕ) (n w : ℕ) (h : Shape o n w) where
-  pub shape_refused : is_none (refusal_in n w s) ≡ false → refused_by (first_bad (take n s)) ≡ operands_of o s
+  pub shape_refused : (e : DecodeError) → Err e ≡ told (refusal_in n w s) → Err e ≡ operands_of o s
   unfolding operands_of unless
-  shape_refused k = rw (h.0, h.1, refusal_is n w s) (by (first_bad (take n s)) (leb (n + w) (length s)) _ (rw (refusal_is n w s) at k))
+  shape_refused e k = rw (h.0, h.1) (by (refusal_in n w s) _ k)
     where
-      by : (f : FirstBad) (t : Bool) (d : Decoded) → is_none (refusal_by f t) ≡ false → refused_by f ≡ unless (refusal_by f t) d
-      by (Bad b) t d e = refl
-      by NoneBad true d e = absurd (let z : ◌≡◌ {A = ℕ} 0 1 = cc in omega arith)
-      by NoneBad false d e = refl
+      by : (x : Option DecodeError) (d : Result (Instr × ℕ) DecodeError) → Err e ≡ told x → Err e ≡ unless x d
+      by None d k = absurd (let z : ◌≡◌ {A = ℕ} 0 1 = cc in omega arith)
+      by (Some x) d k = cc
 
-  pub shape_done : is_none (refusal_in n w s) ≡ true → (i : Instr) → i ≡ instr_of o (from 0 n s) (num (take w (drop n s))) → Done i (1 + n + w) ≡ operands_of o s
+  -- the same where `?` hands the refusal on
+  pub shape_err : (r : Result (Instr × ℕ) DecodeError) (e : DecodeError) → IsErrAnd r (λ y. y ≡ e) → Err e ≡ told (refusal_in n w s) → r ≡ operands_of o s
+  shape_err (Ok x) e q k = absurd q
+  shape_err (Err y) e q k = rw q (shape_refused e k)
+
+  pub shape_done : Ok tt ≡ told (refusal_in n w s) → (i : Instr) → i ≡ instr_of o (from 0 n s) (num (take w (drop n s))) → Ok (i, 1 + n + w) ≡ operands_of o s
   unfolding operands_of unless
   shape_done k i e =
       let own : instr_of o (from 0 n s) (num (take w (drop n s))) ≡ instr_of o s (num (take w (drop n s))) = rw h.0 at (own_regs o s (num (take w (drop n s)))) in
-      rw (h.0, h.1, none_is (refusal_in n w s) k, e ∙ own)
+      rw (h.0, h.1, none_told (refusal_in n w s) k, e ∙ own)
 
 -- ---- shapes, computed over the table
 
@@ -100,7 +78,7 @@ only f n w p h o e k =
     (tests_where (λ (o : OpCode). both (shaped n w o) (f o)) (λ (o : OpCode). eqb (byte_of o) (byte_of p)) h o
     (rw (eq-eqb (regs_of o) n e.0, eq-eqb (wide_of o) w e.1, k))))
 
--- after n registers a number has k bytes where its width is none of some
+-- after n registers a number has k bytes where its width is None of Some
 pub widths : (ks : List ℕ) (k n w : ℕ) →
     all_of (λ (o : OpCode). pick (eqb (regs_of o) n) (either (eqb (wide_of o) k) (has_key ks (wide_of o))) true) opcodes ≡ true →
     (o : OpCode) → Shape o n w → (OneOf ks w → ⊥) → w ≡ k

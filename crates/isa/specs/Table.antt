@@ -1,10 +1,8 @@
 -- The opcode table (document 01, Codec and The run: isa.rs's bytes and operands, meter.rs's base prices).
-use Rattle.std.specs.Prelude.{ℕ, ◌+◌, List, [], ◌∷◌, eqb}
+use Rattle.std.specs.Prelude.{ℕ, ◌+◌, List, [], ◌∷◌, eqb, Option, Some, None}
 use Rattle.words.specs.Choice.{pick}
 use Rattle.isa.specs.declared.opcode.OpCode.{OpCode}
 use Rattle.isa.specs.declared.opcode.OpCode.TheVariants.{Halt, Nop, Mov, Ldi, Ldc, Add, Sub, Mul, Div, Rem, AddW, SubW, MulW, MulHi, DivW, RemW, And, Or, Xor, Not, Shl, Shr, Eq, LtU, GtU, Push, Pop, MLoad, MStore, Jmp, Jz, Jnz, Call, Ret, SLoad, SStore, Send, Emit, Hash, VerifyMl, VerifySlh, MerkleVerify, Addr}
-use Rattle.isa.specs.declared.opcode.OpByte.{OpByte}
-use Rattle.isa.specs.declared.opcode.OpByte.TheVariants.{Known, Unknown}
 use Rattle.isa.specs.declared.opcode.OpRow.{OpRow}
 
 abbrev pub op_row : ℕ → ℕ → ℕ → ℕ → OpRow
@@ -80,10 +78,10 @@ opcodes =
     Ret ∷ SLoad ∷ SStore ∷ Send ∷ Emit ∷ Hash ∷ VerifyMl ∷ VerifySlh ∷ MerkleVerify ∷ Addr ∷ []
 
 -- the opcode among these that has a byte
-unfoldable pub op_with : ℕ → List OpCode → OpByte
-op_with b [] = Unknown
-op_with b (o ∷ os) = pick (eqb b (byte_of o)) (Known o) (op_with b os)
+unfoldable pub op_with : ℕ → List OpCode → Option OpCode
+op_with b [] = None
+op_with b (o ∷ os) = pick (eqb b (byte_of o)) (Some o) (op_with b os)
 
-unfoldable pub op_at : ℕ → OpByte
+unfoldable pub op_at : ℕ → Option OpCode
 unfolding op_with
 op_at b = op_with b opcodes

@@ -1,9 +1,8 @@
 -- Laws of the opcode table: every opcode is found by its byte, and what a test says of every row holds of each. Assumes nothing.
-use Rattle.std.specs.Prelude.{ℕ, ◌≤◌, ◌≡◌, refl, List, [], ◌∷◌, Bool, true, false, leb, eqb}
+use Rattle.std.specs.Prelude.{ℕ, ◌≤◌, ◌≡◌, refl, List, [], ◌∷◌, Bool, true, false, leb, eqb, Some, None}
 use Rattle.std.proofs.Common.{sym, ap, ◌∙◌, arith, ne_eqb, leb-true, eqb-true}
 use Rattle.words.specs.Choice.{pick}
 use Rattle.isa.specs.declared.opcode.OpCode.{OpCode}
-use Rattle.isa.specs.declared.opcode.OpByte.TheVariants.{Known, Unknown}
 use Rattle.isa.specs.ComputedLaws.{computed}
 use Rattle.isa.specs.Table.{row_of, byte_of, regs_of, wide_of, length_of, op_with, op_at, opcodes}
 
@@ -12,7 +11,7 @@ abbrev pub Rest : Type 0 → List OpCode → ℕ → Type 0
 Rest N [] b = N
 Rest N (o ∷ os) b = Rest (N × (b ≡ byte_of o → ⊥)) os b
 
-pub none_of : (N : Type 0) (os : List OpCode) (b : ℕ) → Rest N os b → (op_with b os ≡ Unknown) × N
+pub none_of : (N : Type 0) (os : List OpCode) (b : ℕ) → Rest N os b → (op_with b os ≡ None) × N
 unfolding op_with
 none_of N [] b r = (refl, r)
 none_of N (o ∷ os) b r =
@@ -20,7 +19,7 @@ none_of N (o ∷ os) b r =
     (rw (ne_eqb b (byte_of o) h.1.1) h.0, h.1.0)
 
 -- every opcode is found by its byte
-pub known : (o : OpCode) → op_at (byte_of o) ≡ Known o
+pub known : (o : OpCode) → op_at (byte_of o) ≡ Some o
 known o = (computed o).0
 
 -- what holds of each listed opcode
@@ -28,26 +27,26 @@ abbrev pub All : (OpCode → Type 0) → List OpCode → Type 0
 All P [] = Unit {0}
 All P (o ∷ os) = P o × All P os
 
-found : (P : OpCode → Type 0) (b : ℕ) (os : List OpCode) (o : OpCode) → All P os → op_with b os ≡ Known o → P o
+found : (P : OpCode → Type 0) (b : ℕ) (os : List OpCode) (o : OpCode) → All P os → op_with b os ≡ Some o → P o
 unfolding op_with
 found P b [] o p h = absurd (let z : ◌≡◌ {A = ℕ} 0 1 = cc in omega arith)
 found P b (x ∷ os) o p h = by (eqb b (byte_of x)) h (found P b os o p.1)
   where
-    by : (t : Bool) → pick t (Known x) (op_with b os) ≡ Known o → (op_with b os ≡ Known o → P o) → P o
+    by : (t : Bool) → pick t (Some x) (op_with b os) ≡ Some o → (op_with b os ≡ Some o → P o) → P o
     by true k r = let e : x ≡ o = cc in rw e at p.0
     by false k r = r k
 
 -- an opcode that is found by a byte has it
-find_byte : (b : ℕ) (os : List OpCode) (o : OpCode) → op_with b os ≡ Known o → b ≡ byte_of o
+find_byte : (b : ℕ) (os : List OpCode) (o : OpCode) → op_with b os ≡ Some o → b ≡ byte_of o
 unfolding op_with
 find_byte b [] o h = absurd (let z : ◌≡◌ {A = ℕ} 0 1 = cc in omega arith)
 find_byte b (x ∷ os) o h = by (eqb b (byte_of x)) refl h (find_byte b os o)
   where
-    by : (t : Bool) → eqb b (byte_of x) ≡ t → pick t (Known x) (op_with b os) ≡ Known o → (op_with b os ≡ Known o → b ≡ byte_of o) → b ≡ byte_of o
+    by : (t : Bool) → eqb b (byte_of x) ≡ t → pick t (Some x) (op_with b os) ≡ Some o → (op_with b os ≡ Some o → b ≡ byte_of o) → b ≡ byte_of o
     by true q k r = let e : x ≡ o = cc in rw (← e) (eqb-true b (byte_of x) q)
     by false q k r = r k
 
-pub opcode_byte : (b : ℕ) (o : OpCode) → op_at b ≡ Known o → b ≡ byte_of o
+pub opcode_byte : (b : ℕ) (o : OpCode) → op_at b ≡ Some o → b ≡ byte_of o
 unfolding op_at
 opcode_byte b o h = find_byte b opcodes o h
 
@@ -80,7 +79,7 @@ tests_where a b h o e = rw e at (tests (λ (o : OpCode). pick (a o) (b o) true) 
 
 -- two opcodes of one byte are one
 pub same_byte : (o p : OpCode) → byte_of o ≡ byte_of p → o ≡ p
-same_byte o p e = let k : Known o ≡ Known p = sym (known o) ∙ ap op_at e ∙ known p in cc
+same_byte o p e = let k : Some o ≡ Some p = sym (known o) ∙ ap op_at e ∙ known p in cc
 
 -- no opcode has more than 6 registers, more than 8 bytes of number or more than 10 bytes in all
 pub record RowBounds (o : OpCode) : Type 0 where

@@ -4,20 +4,12 @@ use Rattle.std.proofs.Common.{arith}
 use Rattle.words.specs.Lists.{member}
 use Rattle.isa.specs.declared.opcode.OpCode.{OpCode}
 use Rattle.isa.specs.declared.opcode.OpCode.TheVariants.{Halt, Jmp, Jz, Jnz, Call, Ret}
-use Rattle.isa.specs.declared.opcode.Kind.{Kind}
-use Rattle.isa.specs.declared.opcode.Kind.TheVariants.{Registers, Constant, Other}
 use Rattle.isa.specs.declared.flow.Flow.{Flow}
 use Rattle.isa.specs.declared.flow.Flow.TheVariants.{Next, Stop, Jump, Branch, Enter, Return}
 use Rattle.isa.specs.Table.{row_of, byte_of}
 use Rattle.isa.specs.TableLaws.{tests_where}
 use Rattle.isa.specs.Forms.{instr_of}
-use Rattle.isa.specs.Kinds.{is_registers}
 use Rattle.isa.specs.Flow.{flow_of}
-
-abbrev pub is_other : Kind → Bool
-is_other Registers = false
-is_other Constant = false
-is_other Other = true
 
 abbrev is_next : Flow → Bool
 is_next Next = true
@@ -29,16 +21,6 @@ is_next Return = false
 
 none : {A : Type 0} {x y : A} → false ≡ true → x ≡ y
 none h = absurd (let z : ◌≡◌ {A = ℕ} 0 1 = cc in omega arith)
-
-pub registers_is : (k : Kind) → is_registers k ≡ true → k ≡ Registers
-registers_is Registers h = refl
-registers_is Constant h = none h
-registers_is Other h = none h
-
-pub other_is : (k : Kind) → is_other k ≡ true → k ≡ Other
-other_is Registers h = none h
-other_is Constant h = none h
-other_is Other h = refl
 
 next_is : (f : Flow) → is_next f ≡ true → f ≡ Next
 next_is Next h = refl

@@ -1,66 +1,41 @@
 // Reading an instruction from bytes, and writing it as bytes.
-ghost use Rattle.std.specs.Prelude.{◌≡◌, ◌∷◌, ◌++◌, ◌+◌, ◌≤◌, length, take, drop};
+ghost use Rattle.std.specs.Prelude.{OnOk, ◌≡◌, ◌∷◌, ◌++◌, ◌+◌, ◌≤◌, length, take, drop, is_none};
 ghost use Rattle.words.specs.Bytes.{be_bytes};
 ghost use Rattle.isa.specs.Forms.{form_of};
 ghost use Rattle.isa.specs.Codec.{first_bad, refusal_in, operands_of, decode_at, encoded_of, output_of};
 ghost use Rattle.isa.specs.Reads.{byte_read, reg_read};
-ghost use Rattle.isa.specs.Shapes.{Shape, is_none, refused_by};
+ghost use Rattle.isa.specs.Shapes.{Shape, told};
 ghost use Rattle.isa.specs.Answers.{decode_error, encode_error};
 
 use super::instr::Instr;
-use super::opcode::{OpByte, OpCode};
+use super::opcode::OpCode;
 use words::refusal::Refusal;
 
-#[derive(Clone, Copy)]
+#[derive(Clone, Copy, Debug, PartialEq, Eq)]
 pub enum DecodeError {
     UnknownOpcode(u8),
     BadRegister(u8),
     Truncated,
 }
 
-#[derive(Clone, Copy)]
-pub enum Decoded {
-    Done(Instr, usize),
-    Refused(DecodeError),
-}
-
-// What stands at a place.
-#[derive(Clone, Copy)]
-pub enum GotByte {
-    Byte(u8),
-    Refused(DecodeError),
-}
-
 // What was read, and the place of the next read.
 #[derive(Clone, Copy)]
 pub struct ReadAt {
-    pub got: GotByte,
+    pub got: Result<u8, DecodeError>,
     pub at: usize,
 }
 
-#[derive(Clone, Copy)]
+#[derive(Clone, Copy, Debug, PartialEq, Eq)]
 pub enum EncodeError {
     BadRegister(u8),
     NoRoom,
 }
 
-#[derive(Clone, Copy)]
-pub enum Encoded {
-    Done(usize),
-    Refused(EncodeError),
-}
+impl From<DecodeError> for Refusal {
+    ghost from_gives = { λ e r. r ≡ decode_error e };
 
-#[derive(Clone, Copy)]
-pub enum FirstBad {
-    Bad(u8),
-    NoneBad,
-}
-
-impl DecodeError {
-    pub fn refusal(self) -> Refusal
-        ensures { result ≡ decode_error self }
-    {
-        match self {
+    fn from(e: DecodeError) -> Refusal {
+        match e {
             DecodeError::UnknownOpcode(b) => Refusal {
                 number: 15,
                 argument: b as u64,
@@ -74,11 +49,11 @@ impl DecodeError {
     }
 }
 
-impl EncodeError {
-    pub fn refusal(self) -> Refusal
-        ensures { result ≡ encode_error self }
-    {
-        match self {
+impl From<EncodeError> for Refusal {
+    ghost from_gives = { λ e r. r ≡ encode_error e };
+
+    fn from(e: EncodeError) -> Refusal {
+        match e {
             EncodeError::BadRegister(b) => Refusal {
                 number: 16,
                 argument: b as u64,
@@ -94,13 +69,13 @@ pub fn read_byte(code: &[u8], at: usize) -> ReadAt
 {
     if code.len() <= at {
         return ReadAt {
-            got: GotByte::Refused(DecodeError::Truncated),
+            got: Err(DecodeError::Truncated),
             at,
         };
     }
     let b = code[at];
     ReadAt {
-        got: GotByte::Byte(b),
+        got: Ok(b),
         at: at + 1,
     }
 }
@@ -110,154 +85,120 @@ pub fn read_reg(code: &[u8], at: usize) -> ReadAt
     ensures { result ≡ reg_read code.now at }
 {
     let r = read_byte(code, at);
-    let got = r.got;
-    match got {
-        GotByte::Byte(b) => {
-            if OpCode::NUM_REGS <= b {
-                return ReadAt {
-                    got: GotByte::Refused(DecodeError::BadRegister(b)),
-                    at: r.at,
-                };
-            }
-            r
-        }
-        GotByte::Refused(_) => r,
+    match r.got {
+        Ok(b) if OpCode::NUM_REGS <= b => ReadAt {
+            got: Err(DecodeError::BadRegister(b)),
+            at: r.at,
+        },
+        _ => r,
     }
 }
 
-// The first register of 16 or more among the first n bytes of s, as far as they stand.
+// The first register of 16 or more.
 #[tactic(auto, using(crate::proofs::FirstBad::bad_here, crate::proofs::FirstBad::bad_next))]
-fn first_bad(s: &[u8], n: usize) -> FirstBad
-    ensures { result ≡ first_bad (take n s.now) }
+fn first_bad(s: &[u8]) -> Option<u8>
+    ensures { result ≡ first_bad s.now }
 {
-    let mut i = 0;
-    while i < n {
-        if s.len() <= i {
-            return FirstBad::NoneBad;
-        }
-        let b = s[i];
+    for &b in s {
         if b >= OpCode::NUM_REGS {
-            return FirstBad::Bad(b);
+            return Some(b);
         }
-        i += 1;
     }
-    FirstBad::NoneBad
+    None
 }
 
-// Whether n registers and w bytes of a number stand at the start of s.
-fn stands(s: &[u8], n: usize, w: usize) -> bool
+// Whether n registers and w bytes of a number stand at the start of s; if not, the first bad register of those that stand, or
+// else that bytes are missing.
+fn operands(s: &[u8], n: usize, w: usize) -> Result<(), DecodeError>
     requires { n + w ≤ 9 }
-    ensures { result ≡ is_none (refusal_in n w s.now) }
+    ensures answer { result ≡ told (refusal_in n w s.now) }
+    ensures room { OnOk result (n + w ≤ length s.now) }
 {
+    if let Some(b) = first_bad(&s[..n.min(s.len())]) {
+        return Err(DecodeError::BadRegister(b));
+    }
     if s.len() < n + w {
-        return false;
+        return Err(DecodeError::Truncated);
     }
-    let mut i = 0;
-    while i < n {
-        if s[i] >= OpCode::NUM_REGS {
-            return false;
-        }
-        i += 1;
-    }
-    true
-}
-
-// Why they do not: the first bad register of those that stand, or else that bytes are missing.
-fn refused(s: &[u8], n: usize) -> Decoded
-    ensures { result ≡ refused_by (first_bad (take n s.now)) }
-{
-    if let FirstBad::Bad(b) = first_bad(s, n) {
-        return Decoded::Refused(DecodeError::BadRegister(b));
-    }
-    Decoded::Refused(DecodeError::Truncated)
+    Ok(())
 }
 
 // What the bytes after an opcode say, by its shape: no register, and w bytes of a number.
-fn none(op: OpCode, s: &[u8], w: usize) -> Decoded
+fn none(op: OpCode, s: &[u8], w: usize) -> Result<(Instr, usize), DecodeError>
     requires { Shape op 0 w }
     ensures { result ≡ operands_of op s.now }
 {
     if w == 0 {
-        return Decoded::Done(super::instr::plain(op), 1);
+        return Ok((super::instr::plain(op), 1));
     }
-    if !stands(s, 0, 4) {
-        return refused(s, 0);
-    }
-    Decoded::Done(super::instr::jump(op, words::bytes::read(s, 0, 4)), 5)
+    operands(s, 0, 4)?;
+    Ok((super::instr::jump(op, words::bytes::read(s, 0, 4)), 5))
 }
 
 // One register, and w bytes of a number.
-fn one(op: OpCode, s: &[u8], w: usize) -> Decoded
+fn one(op: OpCode, s: &[u8], w: usize) -> Result<(Instr, usize), DecodeError>
     requires { Shape op 1 w }
     ensures { result ≡ operands_of op s.now }
 {
-    if !stands(s, 1, w) {
-        return refused(s, 1);
-    }
+    operands(s, 1, w)?;
     let r0 = s[0];
     match w {
-        0 => Decoded::Done(super::instr::with_one(op, r0), 2),
-        2 => Decoded::Done(
+        0 => Ok((super::instr::with_one(op, r0), 2)),
+        2 => Ok((
             Instr::Ldc {
                 d: r0,
                 idx: (words::bytes::read(s, 1, 2) % 65536) as u16,
             },
             4,
-        ),
-        4 => Decoded::Done(super::instr::branch(op, r0, words::bytes::read(s, 1, 4)), 6),
-        _ => Decoded::Done(
+        )),
+        4 => Ok((super::instr::branch(op, r0, words::bytes::read(s, 1, 4)), 6)),
+        _ => Ok((
             Instr::Ldi {
                 d: r0,
                 imm: words::bytes::read(s, 1, 8),
             },
             10,
-        ),
+        )),
     }
 }
 
-fn two(op: OpCode, s: &[u8]) -> Decoded
+fn two(op: OpCode, s: &[u8]) -> Result<(Instr, usize), DecodeError>
     requires { Shape op 2 0 }
     ensures { result ≡ operands_of op s.now }
 {
-    if !stands(s, 2, 0) {
-        return refused(s, 2);
-    }
-    Decoded::Done(super::instr::with_two(op, s[0], s[1]), 3)
+    operands(s, 2, 0)?;
+    Ok((super::instr::with_two(op, s[0], s[1]), 3))
 }
 
-fn three(op: OpCode, s: &[u8]) -> Decoded
+fn three(op: OpCode, s: &[u8]) -> Result<(Instr, usize), DecodeError>
     requires { Shape op 3 0 }
     ensures { result ≡ operands_of op s.now }
 {
-    if !stands(s, 3, 0) {
-        return refused(s, 3);
-    }
-    Decoded::Done(super::instr::with_three(op, s[0], s[1], s[2]), 4)
+    operands(s, 3, 0)?;
+    Ok((super::instr::with_three(op, s[0], s[1], s[2]), 4))
 }
 
-fn six(op: OpCode, s: &[u8]) -> Decoded
+fn six(op: OpCode, s: &[u8]) -> Result<(Instr, usize), DecodeError>
     requires { Shape op 6 0 }
     ensures { result ≡ operands_of op s.now }
 {
-    if !stands(s, 6, 0) {
-        return refused(s, 6);
-    }
-    Decoded::Done(
+    operands(s, 6, 0)?;
+    Ok((
         super::instr::with_six(op, s[0], s[1], s[2], s[3], s[4], s[5]),
         7,
-    )
+    ))
 }
 
 // The instruction at a place of the code and its length, or the first refusal met.
-pub fn decode(code: &[u8], place: usize) -> Decoded
+pub fn decode(code: &[u8], place: usize) -> Result<(Instr, usize), DecodeError>
     ensures { result ≡ decode_at code.now place }
 {
     if code.len() <= place {
-        return Decoded::Refused(DecodeError::Truncated);
+        return Err(DecodeError::Truncated);
     }
     let b = code[place];
-    let OpByte::Known(op) = OpCode::from_byte(b) else {
-        return Decoded::Refused(DecodeError::UnknownOpcode(b));
+    let Some(op) = OpCode::from_byte(b) else {
+        return Err(DecodeError::UnknownOpcode(b));
     };
     let at = place + 1;
     let s = &code[at..];
@@ -265,11 +206,11 @@ pub fn decode(code: &[u8], place: usize) -> Decoded
     let n = row.1;
     let w = row.2;
     match n {
-        0 => return none(op, s, w),
-        1 => return one(op, s, w),
-        2 => return two(op, s),
-        3 => return three(op, s),
-        _ => return six(op, s),
+        0 => none(op, s, w),
+        1 => one(op, s, w),
+        2 => two(op, s),
+        3 => three(op, s),
+        _ => six(op, s),
     }
 }
 
@@ -284,24 +225,24 @@ fn put(out: &mut [u8], byte: u8, r: &[u8], n: usize, num: u64, w: usize)
 }
 
 // The first register of 16 or more that an instruction names.
-pub fn bad_register(i: Instr) -> FirstBad
+pub fn bad_register(i: Instr) -> Option<u8>
     ensures { result ≡ first_bad (form_of i).regs }
 {
     let p = i.parts_of();
     let op = p.0;
     let r = p.1;
     let n = op.registers();
-    first_bad(&r, n)
+    first_bad(&r[..n])
 }
 
 // The bytes of an instruction into the output, and how many; a refusal leaves the output as it is.
 #[tactic(auto, using(crate::proofs::NoRoom::no_room_answer, crate::proofs::NoRoom::no_room_output))]
-pub fn encode(i: Instr, out: &mut [u8]) -> Encoded
+pub fn encode(i: Instr, out: &mut [u8]) -> Result<usize, EncodeError>
     ensures answer { result ≡ encoded_of i out.old }
     ensures output { out.new ≡ output_of i out.old }
 {
-    if let FirstBad::Bad(b) = bad_register(i) {
-        return Encoded::Refused(EncodeError::BadRegister(b));
+    if let Some(b) = bad_register(i) {
+        return Err(EncodeError::BadRegister(b));
     }
     let p = i.parts_of();
     let op = p.0;
@@ -311,8 +252,8 @@ pub fn encode(i: Instr, out: &mut [u8]) -> Encoded
     let w = row.2;
     let size = 1 + n + w;
     if out.len() < size {
-        return Encoded::Refused(EncodeError::NoRoom);
+        return Err(EncodeError::NoRoom);
     }
     put(out, row.0, &r, n, p.2, w);
-    Encoded::Done(size)
+    Ok(size)
 }

@@ -3,7 +3,7 @@ ghost use Rattle.std.specs.Prelude.{◌≡◌};
 ghost use Rattle.isa.specs.Reads.{byte_read, reg_read};
 ghost use Rattle.isa.specs.Cursor.{cursor_at, CursorReads, byte_then_reg};
 
-use super::codec::GotByte;
+use super::codec::DecodeError;
 
 #[derive(Clone, Copy)]
 pub struct Cursor<'a> {
@@ -14,8 +14,8 @@ pub struct Cursor<'a> {
 // What two reads in a row got, and the place of the next.
 #[derive(Clone, Copy)]
 pub struct TwoReads {
-    pub byte: GotByte,
-    pub reg: GotByte,
+    pub byte: Result<u8, DecodeError>,
+    pub reg: Result<u8, DecodeError>,
     pub at: usize,
 }
 
@@ -26,7 +26,7 @@ impl<'a> Cursor<'a> {
         Cursor { code, at }
     }
 
-    pub fn byte<'s>(&'s mut self) -> GotByte
+    pub fn byte<'s>(&'s mut self) -> Result<u8, DecodeError>
         ensures { CursorReads byte_read self.old self.new result }
     {
         let r = super::codec::read_byte(self.code, self.at);
@@ -34,7 +34,7 @@ impl<'a> Cursor<'a> {
         r.got
     }
 
-    pub fn reg<'s>(&'s mut self) -> GotByte
+    pub fn reg<'s>(&'s mut self) -> Result<u8, DecodeError>
         ensures { CursorReads reg_read self.old self.new result }
     {
         let r = super::codec::read_reg(self.code, self.at);

@@ -26,6 +26,7 @@ pub enum Refers {
 
 impl Flow {
     // The place that it names.
+    #[tactic(auto, unfolding(crate::specs::Refers::aim_of))]
     fn aim(self) -> Refers
         ensures { result ≡ aim_of self }
     {

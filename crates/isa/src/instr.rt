@@ -212,6 +212,7 @@ impl Instr {
         p.0
     }
 
+    #[tactic(auto, unfolding(crate::specs::Forms::form_of))]
     pub fn parts_of(self) -> Parts
         ensures { result ≡ padded (form_of self) }
     {
@@ -278,6 +279,7 @@ impl Instr {
 }
 
 // The instruction of an opcode, by its shape: of no register and no number.
+#[tactic(auto, unfolding(crate::specs::Table::row_of, crate::specs::Forms::instr_of))]
 pub fn plain(op: OpCode) -> Instr
     ensures { Shape op 0 0 → result ≡ instr_of op [] 0 }
 {
@@ -289,6 +291,7 @@ pub fn plain(op: OpCode) -> Instr
 }
 
 // Of a number of four bytes.
+#[tactic(auto, unfolding(crate::specs::Table::row_of, crate::specs::Forms::instr_of))]
 pub fn jump(op: OpCode, num: u64) -> Instr
     ensures { Shape op 0 4 → num < 256 ^ 4 → result ≡ instr_of op [] num }
 {
@@ -303,6 +306,7 @@ pub fn jump(op: OpCode, num: u64) -> Instr
 }
 
 // Of one register.
+#[tactic(auto, unfolding(crate::specs::Table::row_of, crate::specs::Forms::instr_of))]
 pub fn with_one(op: OpCode, r0: u8) -> Instr
     ensures { Shape op 1 0 → result ≡ instr_of op (r0 ∷ []) 0 }
 {
@@ -313,6 +317,7 @@ pub fn with_one(op: OpCode, r0: u8) -> Instr
 }
 
 // Of one register and a number of four bytes.
+#[tactic(auto, unfolding(crate::specs::Table::row_of, crate::specs::Forms::instr_of))]
 pub fn branch(op: OpCode, r0: u8, num: u64) -> Instr
     ensures { Shape op 1 4 → num < 256 ^ 4 → result ≡ instr_of op (r0 ∷ []) num }
 {
@@ -329,6 +334,7 @@ pub fn branch(op: OpCode, r0: u8, num: u64) -> Instr
 }
 
 // Of two registers.
+#[tactic(auto, unfolding(crate::specs::Table::row_of, crate::specs::Forms::instr_of))]
 pub fn with_two(op: OpCode, r0: u8, r1: u8) -> Instr
     ensures { Shape op 2 0 → result ≡ instr_of op (r0 ∷ r1 ∷ []) 0 }
 {
@@ -343,6 +349,7 @@ pub fn with_two(op: OpCode, r0: u8, r1: u8) -> Instr
 }
 
 // Of three registers.
+#[tactic(auto, unfolding(crate::specs::Table::row_of, crate::specs::Forms::instr_of))]
 pub fn with_three(op: OpCode, r0: u8, r1: u8, r2: u8) -> Instr
     ensures { Shape op 3 0 → result ≡ instr_of op (r0 ∷ r1 ∷ r2 ∷ []) 0 }
 {
@@ -471,6 +478,7 @@ pub fn with_three(op: OpCode, r0: u8, r1: u8, r2: u8) -> Instr
 }
 
 // Of six registers.
+#[tactic(auto, unfolding(crate::specs::Table::row_of, crate::specs::Forms::instr_of))]
 pub fn with_six(op: OpCode, r0: u8, r1: u8, r2: u8, r3: u8, r4: u8, r5: u8) -> Instr
     ensures { Shape op 6 0 → result ≡ instr_of op (r0 ∷ r1 ∷ r2 ∷ r3 ∷ r4 ∷ r5 ∷ []) 0 }
 {

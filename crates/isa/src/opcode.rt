@@ -54,14 +54,8 @@ pub enum OpCode {
 #[derive(Clone, Copy)]
 pub struct OpRow(pub u8, pub usize, pub usize, pub u64);
 
-#[derive(Clone, Copy)]
-pub enum OpByte {
-    Known(OpCode),
-    Unknown,
-}
-
 // Opcodes that work on registers alone; Ldc, which names a constant; the others.
-#[derive(Clone, Copy)]
+#[derive(Clone, Copy, Debug, PartialEq, Eq)]
 pub enum Kind {
     Registers,
     Constant,
@@ -74,57 +68,59 @@ impl OpCode {
     // No instruction is longer.
     pub const MAX_LENGTH: usize = 10;
 
-    pub fn from_byte(b: u8) -> OpByte
+    #[tactic(auto, unfolding(crate::specs::Table::row_of, crate::specs::Table::op_with, crate::specs::Table::op_at))]
+    pub fn from_byte(b: u8) -> Option<OpCode>
         ensures { result ≡ op_at b }
     {
         match b {
-            0 => OpByte::Known(OpCode::Halt),
-            1 => OpByte::Known(OpCode::Nop),
-            2 => OpByte::Known(OpCode::Mov),
-            3 => OpByte::Known(OpCode::Ldi),
-            4 => OpByte::Known(OpCode::Ldc),
-            16 => OpByte::Known(OpCode::Add),
-            17 => OpByte::Known(OpCode::Sub),
-            18 => OpByte::Known(OpCode::Mul),
-            19 => OpByte::Known(OpCode::Div),
-            20 => OpByte::Known(OpCode::Rem),
-            24 => OpByte::Known(OpCode::AddW),
-            25 => OpByte::Known(OpCode::SubW),
-            26 => OpByte::Known(OpCode::MulW),
-            27 => OpByte::Known(OpCode::MulHi),
-            28 => OpByte::Known(OpCode::DivW),
-            29 => OpByte::Known(OpCode::RemW),
-            32 => OpByte::Known(OpCode::And),
-            33 => OpByte::Known(OpCode::Or),
-            34 => OpByte::Known(OpCode::Xor),
-            35 => OpByte::Known(OpCode::Not),
-            36 => OpByte::Known(OpCode::Shl),
-            37 => OpByte::Known(OpCode::Shr),
-            40 => OpByte::Known(OpCode::Eq),
-            41 => OpByte::Known(OpCode::LtU),
-            42 => OpByte::Known(OpCode::GtU),
-            48 => OpByte::Known(OpCode::Push),
-            49 => OpByte::Known(OpCode::Pop),
-            56 => OpByte::Known(OpCode::MLoad),
-            57 => OpByte::Known(OpCode::MStore),
-            64 => OpByte::Known(OpCode::Jmp),
-            65 => OpByte::Known(OpCode::Jz),
-            66 => OpByte::Known(OpCode::Jnz),
-            67 => OpByte::Known(OpCode::Call),
-            68 => OpByte::Known(OpCode::Ret),
-            80 => OpByte::Known(OpCode::SLoad),
-            81 => OpByte::Known(OpCode::SStore),
-            96 => OpByte::Known(OpCode::Send),
-            97 => OpByte::Known(OpCode::Emit),
-            112 => OpByte::Known(OpCode::Hash),
-            113 => OpByte::Known(OpCode::VerifyMl),
-            114 => OpByte::Known(OpCode::VerifySlh),
-            115 => OpByte::Known(OpCode::MerkleVerify),
-            118 => OpByte::Known(OpCode::Addr),
-            _ => OpByte::Unknown,
+            0 => Some(OpCode::Halt),
+            1 => Some(OpCode::Nop),
+            2 => Some(OpCode::Mov),
+            3 => Some(OpCode::Ldi),
+            4 => Some(OpCode::Ldc),
+            16 => Some(OpCode::Add),
+            17 => Some(OpCode::Sub),
+            18 => Some(OpCode::Mul),
+            19 => Some(OpCode::Div),
+            20 => Some(OpCode::Rem),
+            24 => Some(OpCode::AddW),
+            25 => Some(OpCode::SubW),
+            26 => Some(OpCode::MulW),
+            27 => Some(OpCode::MulHi),
+            28 => Some(OpCode::DivW),
+            29 => Some(OpCode::RemW),
+            32 => Some(OpCode::And),
+            33 => Some(OpCode::Or),
+            34 => Some(OpCode::Xor),
+            35 => Some(OpCode::Not),
+            36 => Some(OpCode::Shl),
+            37 => Some(OpCode::Shr),
+            40 => Some(OpCode::Eq),
+            41 => Some(OpCode::LtU),
+            42 => Some(OpCode::GtU),
+            48 => Some(OpCode::Push),
+            49 => Some(OpCode::Pop),
+            56 => Some(OpCode::MLoad),
+            57 => Some(OpCode::MStore),
+            64 => Some(OpCode::Jmp),
+            65 => Some(OpCode::Jz),
+            66 => Some(OpCode::Jnz),
+            67 => Some(OpCode::Call),
+            68 => Some(OpCode::Ret),
+            80 => Some(OpCode::SLoad),
+            81 => Some(OpCode::SStore),
+            96 => Some(OpCode::Send),
+            97 => Some(OpCode::Emit),
+            112 => Some(OpCode::Hash),
+            113 => Some(OpCode::VerifyMl),
+            114 => Some(OpCode::VerifySlh),
+            115 => Some(OpCode::MerkleVerify),
+            118 => Some(OpCode::Addr),
+            _ => None,
         }
     }
 
+    #[tactic(auto, unfolding(crate::specs::Table::row_of))]
     pub fn row(self) -> OpRow
         ensures { result ≡ row_of self }
     {
@@ -210,6 +206,7 @@ impl OpCode {
         row.3
     }
 
+    #[tactic(auto, unfolding(crate::specs::Kinds::kind_of))]
     pub fn kind(self) -> Kind
         ensures { result ≡ kind_of self }
     {
@@ -245,11 +242,6 @@ impl OpCode {
     pub fn is_register_op(self) -> bool
         ensures { result ≡ register_op self }
     {
-        let kind = self.kind();
-        match kind {
-            Kind::Registers => true,
-            Kind::Constant => false,
-            Kind::Other => false,
-        }
+        self.kind() == Kind::Registers
     }
 }

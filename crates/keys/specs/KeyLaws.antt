@@ -28,7 +28,7 @@ module _ (l : TableRows) (g : Given) (c : Counts) (b : KeyBufs) (ok : Good c b) 
 
   -- the three tables that authorising leaves alone fit
   room_is : (write : Bool) → write ≡ member base (words_in g.keyed_writes)
-      → key_fits c k write b.may_read b.may_write ≡ fits (rooms_of b) (authorised e s base k)
+      → key_fits c.reads c.writes k write b.may_read b.may_write ≡ fits (rooms_of b) (authorised e s base k)
   unfolding fits authorised key_fits
   room_is write q =
       rw (
@@ -43,7 +43,7 @@ module _ (l : TableRows) (g : Given) (c : Counts) (b : KeyBufs) (ok : Good c b) 
   module _ (is write written read room : Bool) (price bytes : ℕ) (qw : write ≡ member base (words_in g.keyed_writes))
       (qk : is ≡ either write (member base (words_in g.keyed_reads)))
       (qu : written ≡ has k (rows 32 c.writes b.may_write)) (qr : read ≡ has k (rows 32 c.reads b.may_read))
-      (qp : price ≡ key_price written read) (qb : bytes ≡ key_bytes write written read) (qf : room ≡ key_fits c k write b.may_read b.may_write) where
+      (qp : price ≡ key_price written read) (qb : bytes ≡ key_bytes write written read) (qf : room ≡ key_fits c.reads c.writes k write b.may_read b.may_write) where
     keyed_is : is ≡ keyed e base
     unfolding keyed
     keyed_is = rw (← qw) qk
@@ -66,7 +66,7 @@ module _ (l : TableRows) (g : Given) (c : Counts) (b : KeyBufs) (ok : Good c b) 
     unfolding key_plan
     write_is = ap (λ (x : KeyPlan). x.write) q
 
-    fits_is : key_fits c k p.write b.may_read b.may_write ≡ p.room
+    fits_is : key_fits c.reads c.writes k p.write b.may_read b.may_write ≡ p.room
     unfolding key_plan
     fits_is = room_is p.write write_is ∙ sym (ap (λ (x : KeyPlan). x.room) q)
 

@@ -31,9 +31,9 @@ abbrev pub Authorises : TableRows → Given → (base k : ℕ) → KeyPlan → (
 Authorises l g base k p c r b a =
     Good c b → p ≡ key_plan (rooms_of b) (key_env_of l g) (keys_of c b) base k → Leaves (authorised (key_env_of l g) (keys_of c b) base k) r a
 
--- the two lists hold the key
-unfoldable pub key_fits : Counts → ℕ → Bool → (readable writable : List ℕ) → Bool
-key_fits c k write readable writable = both (holds 32 c.reads true (row k 0) readable) (holds 32 c.writes write (row k 0) writable)
+-- the two lists, of so many rows, hold the key
+unfoldable pub key_fits : (nr nw : ℕ) → ℕ → Bool → (readable writable : List ℕ) → Bool
+key_fits nr nw k write readable writable = both (holds 32 nr true (row k 0) readable) (holds 32 nw write (row k 0) writable)
 
 -- what authorising asks of the two lists
 pub record KeyReady (c : Counts) (p : KeyPlan) (k : ℕ) (readable writable : List ℕ) : Type 0 where

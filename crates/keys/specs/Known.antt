@@ -1,6 +1,5 @@
 -- What a run is given about keys, and what it knows of them (document 01, Lent input and The run).
-use Rattle.std.specs.Prelude.{List, ℕ}
-use Rattle.std.proofs.Math.Option.{Option}
+use Rattle.std.specs.Prelude.{List, ℕ, Option}
 use Rattle.tables.specs.Rows.{Row}
 
 -- the slots that an entry declares, the store, and the loader if there is one: never changed

@@ -1,6 +1,5 @@
 -- What is lent to a run about keys, as it stands: counts and bytes, and what they say (document 01, Lent input).
-use Rattle.std.specs.Prelude.{Bool, true, false, List, ℕ, length}
-use Rattle.std.proofs.Math.Option.{Option, some, none}
+use Rattle.std.specs.Prelude.{Bool, true, false, List, ℕ, length, Option, Some, None}
 use Rattle.words.specs.Bytes.{words_in}
 use Rattle.tables.specs.Rows.{Row, rows}
 use Rattle.keys.specs.Known.{KeyEnv, Keys, Rooms}
@@ -34,8 +33,8 @@ given a b c d e f = record { reads = a; writes = b; keyed_reads = c; keyed_write
 
 -- a loader that is not there is not looked at
 abbrev pub loader_of : Bool → List Row → Option (List Row)
-loader_of true rs = some rs
-loader_of false rs = none
+loader_of true rs = Some rs
+loader_of false rs = None
 
 -- what a run is given: declared slots, the store's rows, the loader's
 abbrev pub key_env_of : TableRows → Given → KeyEnv

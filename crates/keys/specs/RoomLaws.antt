@@ -1,21 +1,20 @@
 -- Room for a row that may have to go in, and what putting it in leaves. Assumes nothing.
-use Rattle.std.specs.Prelude.{◌≡◌, refl, Bool, not, List, ℕ, zero, suc, ◌+◌, ◌*◌, ◌-◌, ◌≤◌, ◌<◌, length, drop, replicate}
+use Rattle.std.specs.Prelude.{◌≡◌, Bool, not, List, ℕ, zero, suc, ◌+◌, ◌*◌, ◌-◌, ◌≤◌, ◌<◌, length, drop, replicate, Option, Some, is_some}
 use Rattle.std.proofs.Math.Path.{sym}
 use Rattle.std.proofs.Common.{ap, ◌∙◌, subst, arith, mul-le-mul_right, drop-drop, le-leb}
 use Rattle.std.proofs.Math.Bool.{true, false}
 use Rattle.std.proofs.Math.Nat.{suc-mul, add-zero}
 use Rattle.std.proofs.Math.Dec.{leb}
 use Rattle.std.proofs.lemmas.Bool.{lt-leb}
-use Rattle.words.specs.Choice.{bit, is_some}
+use Rattle.std.specs.Option.{unwrap_or}
+use Rattle.words.specs.Choice.{bit}
 use Rattle.tables.specs.Rows.{Row, rows, insert, lookup}
 use Rattle.tables.specs.Table.{Table, Inserted, stored_of}
 use Rattle.tables.specs.LayoutLaws.{rows_length}
 use Rattle.tables.specs.RowsTheorems.{length_insert}
 use Rattle.tables.specs.TableTheorems.{inserted_table}
-use Rattle.tables.specs.declared.store.Stored.{Stored}
-use Rattle.tables.specs.declared.store.Stored.TheVariants.{Count}
 use Rattle.keys.specs.Values.{put_if}
-use Rattle.keys.specs.Sound.{Held, PutIf, holds, count_or}
+use Rattle.keys.specs.Sound.{Held, PutIf, holds}
 
 -- ---- room for a key
 
@@ -54,20 +53,17 @@ module _ (w n : ℕ) (t : List ℕ) (tb : Table w n t) where
 
 -- ---- a row put in, if so told
 
-module _ (w n : ℕ) (t : List ℕ) (tb : Table w n t) (b : Bool) (x : Row) where
-  pub put_off : b ≡ false → PutIf w n n b x t t
-  put_off e = rw e (record { table = tb; are = refl; size = refl; rest = refl })
+module _ (w n : ℕ) (t : List ℕ) (tb : Table w n t) (b : Bool) (x : Row) (u : List ℕ) (r : Option ℕ)
+    (lu : length u ≡ length t) (a : Inserted w n x t u r) (on : b ≡ true) (fit : holds w n b x t ≡ true) where
+  counted : r ≡ Some (length (insert x (rows w n t)))
+  unfolding stored_of
+  counted = let f : holds w n true x t ≡ true = rw on at fit in rw f at a.answer
 
-  module _ (u : List ℕ) (r : Stored) (lu : length u ≡ length t) (a : Inserted w n x t u r) (on : b ≡ true) (fit : holds w n b x t ≡ true) where
-    counted : r ≡ Count (length (insert x (rows w n t)))
-    unfolding stored_of
-    counted = let f : holds w n true x t ≡ true = rw on at fit in rw f at a.answer
-
-    pub put_on : (m : ℕ) → m ≡ count_or n r → PutIf w n m b x t u
-    put_on m e =
-        let q : r ≡ Count m = counted ∙ ap Count (sym (e ∙ ap (count_or n) counted)) in
-        let i = subst (λ (o : Stored). Inserted w n x t u o) q a in
-        record { table = inserted_table w n m x t u tb lu i; are = rw on i.bytes.0; size = lu; rest = i.bytes.1 }
+  pub put_on : (m : ℕ) → m ≡ unwrap_or r n → PutIf w n m b x t u
+  put_on m e =
+      let q : r ≡ Some m = counted ∙ ap Some (sym (e ∙ ap (λ (o : Option ℕ). unwrap_or o n) counted)) in
+      let i = subst (λ (o : Option ℕ). Inserted w n x t u o) q a in
+      record { table = inserted_table w n m x t u tb lu i; are = rw on i.bytes.0; size = lu; rest = i.bytes.1 }
 
 -- ---- zeroes after the rows stay
 

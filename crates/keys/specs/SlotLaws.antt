@@ -11,10 +11,8 @@ use Rattle.words.specs.Choice.{either}
 use Rattle.words.specs.Bytes.{num, num_from, Bytes, words_of, words_in}
 use Rattle.words.proofs.BytesTheorems.{num_from_append, num_below}
 use Rattle.words.specs.Lists.{member}
-use Rattle.tables.specs.Order.{order_of}
-use Rattle.tables.specs.OrderLaws.{order_equal, equal_is}
-use Rattle.tables.specs.declared.order.Order.{Order}
-use Rattle.tables.specs.declared.order.Order.TheVariants.{Equal}
+use Rattle.std.specs.List.{All}
+use Rattle.std.proofs.lemmas.List.Elements.{All-cons}
 
 -- ---- a number among slots: what is left decides
 
@@ -25,12 +23,6 @@ module _ (n i x : ℕ) (s : List ℕ) where
       let j : n - i ≡ suc (n - (i + 1)) = omega arith in
       let d : i * 8 + 8 ≡ (i + 1) * 8 = omega arith in
       rw (j, drop-drop 8 (i * 8) s, d)
-
-  pub listed_start : i ≡ 0 → member x (words_of n s) ≡ member x (words_of (n - i) (drop (i * 8) s))
-  listed_start e =
-      let j : n - i ≡ n = omega arith in
-      let d : i * 8 ≡ 0 = omega arith in
-      rw (j, d)
 
   pub listed_hit : i < n → num (take 8 (drop (i * 8) s)) ≡ x → member x (words_of (n - i) (drop (i * 8) s)) ≡ true
   unfolding member
@@ -86,19 +78,31 @@ no_word y (suc n) s h b l =
     let w : num (take 8 s) < 18446744073709551616 = num_below 8 s (omega arith) b in
     rw (ne_eqb (num (take 8 s)) y (λ e. omega arith)) (no_word y n (drop 8 s) h (λ i. rw get_or-drop (b (8 + i))) (omega (arith, length-drop 8 s)))
 
--- what comparing a key's first 24 bytes with zeroes tells
-module _ (key s : List ℕ) (l : length key ≡ 32) where
-  pub is_slot : (v : ℕ) → order_of (num (take 24 key)) (num (replicate 24 0)) ≡ Equal → v ≡ num (take 8 (drop 24 key)) → v ≡ num key
-  unfolding num num_from
-  is_slot v o e =
-      let h : num (take 24 key) ≡ 0 = equal_is (num (take 24 key)) 0 o in
-      let w : take 8 (drop 24 key) ≡ drop 24 key = take_all 8 (drop 24 key) (omega (arith, length-drop 24 key)) in
-      e ∙ ap num w ∙ sym (key_parts key ∙ ap (λ (x : ℕ). num_from x (drop 24 key)) h)
+-- bytes are the number 0 exactly if all are 0
+zero_num : (xs : List ℕ) → All (λ b. b ≡ 0) xs → num_from 0 xs ≡ 0
+unfolding num_from
+zero_num [] h = refl
+zero_num (x ∷ xs) h = let e : 0 * 256 + x ≡ 0 = omega (arith, h 0 0 (omega arith)) in rw e (zero_num xs (λ k d l. h (suc k) d (omega arith)))
 
-  pub no_slot : (o : Order) → Bytes s → order_of (num (take 24 key)) (num (replicate 24 0)) ≡ o → (o ≡ Equal → ⊥) → false ≡ member (num key) (words_in s)
-  unfolding num num_from
-  no_slot o b e ne =
-      sym (no_word (num key) (length s / 8) s (high_key key l (go (num (take 24 key)) (λ h. ne (sym e ∙ order_equal (num (take 24 key)) 0 h)))) b (omega arith))
+num_zero : (xs : List ℕ) (v : ℕ) → num_from v xs ≡ 0 → (v ≡ 0) × All (λ b. b ≡ 0) xs
+unfolding num_from
+num_zero [] v e = (e, λ k d l. absurd (omega arith))
+num_zero (x ∷ xs) v e =
+    let (p, q) = num_zero xs (v * 256 + x) e in
+    (omega arith, All-cons (λ b. b ≡ 0) x xs (omega arith) q)
+
+-- what a key's first 24 bytes tell
+module _ (key s : List ℕ) (l : length key ≡ 32) where
+  pub is_slot : (v : ℕ) → All (λ b. b ≡ 0) (take 24 key) → v ≡ num (take 8 (drop 24 key)) → v ≡ num key
+  unfolding num
+  is_slot v z e =
+      let w : take 8 (drop 24 key) ≡ drop 24 key = take_all 8 (drop 24 key) (omega (arith, length-drop 24 key)) in
+      e ∙ ap num w ∙ sym (key_parts key ∙ ap (λ (x : ℕ). num_from x (drop 24 key)) (zero_num (take 24 key) z))
+
+  pub no_slot : Bytes s → ¬ (All (λ b. b ≡ 0) (take 24 key)) → false ≡ member (num key) (words_in s)
+  unfolding num
+  no_slot b z = sym (no_word (num key) (length s / 8) s (high_key key l (go (num (take 24 key)) refl)) b (omega arith))
     where
-      go : (x : ℕ) → (x ≡ 0 → ⊥) → 0 < x
-      go x n = omega arith
+      go : (x : ℕ) → num (take 24 key) ≡ x → 0 < x
+      go zero e = absurd (z (num_zero (take 24 key) 0 e).1)
+      go (suc x) e = omega arith

@@ -2,8 +2,6 @@
 use Rattle.std.specs.Prelude.{◌≡◌, Bool, true, List, ℕ, ◌-◌, ◌*◌, leb, length, drop, replicate}
 use Rattle.tables.specs.Rows.{Row, rows}
 use Rattle.tables.specs.Table.{Table}
-use Rattle.tables.specs.declared.store.Stored.{Stored}
-use Rattle.tables.specs.declared.store.Stored.TheVariants.{Count, NoRoom}
 use Rattle.keys.specs.Known.{Keys}
 use Rattle.keys.specs.Values.{put_if}
 use Rattle.keys.specs.Lent.{KeyBufs, keys_of}
@@ -29,11 +27,6 @@ pub record Good (c : Counts) (b : KeyBufs) : Type 0 where
 -- whether the rows, with a row put in if so told, stay within the bytes
 abbrev pub holds : (w n : ℕ) → Bool → Row → List ℕ → Bool
 holds w n b x t = leb (length (put_if b x (rows w n t)) * w) (length t)
-
--- the rows that are counted, or n if none was put in
-abbrev pub count_or : ℕ → Stored → ℕ
-count_or n (Count m) = m
-count_or n NoRoom = n
 
 -- m rows stand in u, where n stood in t: with a row put in, if so told, and what lies past them as it was
 pub record PutIf (w n m : ℕ) (b : Bool) (x : Row) (t u : List ℕ) : Type 0 where

@@ -28,7 +28,7 @@ module _ (l : TableRows) (g : Given) (c : Counts) (b : KeyBufs) (ok : Good c b) 
 
   -- the two tables that a store leaves alone fit
   room_is : (seen : Look) (fresh : Bool) → look e s k ≡ seen → fresh_at e s k v ≡ fresh
-      → fits (rooms_of b) (stored e s k v) ≡ store_fits c k v seen fresh b.changes b.fetched b.paid
+      → fits (rooms_of b) (stored e s k v) ≡ store_fits c.changes c.fetched c.paid k v seen fresh b.changes b.fetched b.paid
   unfolding fits stored fetched_with store_fits
   room_is seen fresh q f =
       rw (q, f, table_fits 32 c.reads b.may_read ok.may_read.table, table_fits 32 c.writes b.may_write ok.may_write.table)
@@ -39,7 +39,7 @@ module _ (l : TableRows) (g : Given) (c : Counts) (b : KeyBufs) (ok : Good c b) 
       (loader_of l.has_loader (rows 40 l.loader g.loader)) k)
       (qf : fresh ≡ pays_fresh v seen.value (has k (rows 32 c.paid b.paid)) (has k (rows 32 c.writes b.may_write)) c.changes)
       (qp : price ≡ store_price fresh (has k (rows 40 c.changes b.changes)) c.changes)
-      (qr : room ≡ store_fits c k v seen fresh b.changes b.fetched b.paid) where
+      (qr : room ≡ store_fits c.changes c.fetched c.paid k v seen fresh b.changes b.fetched b.paid) where
     look_is : look e s k ≡ seen
     unfolding look
     look_is = sym qs
@@ -66,7 +66,7 @@ module _ (l : TableRows) (g : Given) (c : Counts) (b : KeyBufs) (ok : Good c b) 
     unfolding store_plan
     pays_is = sym (ap (λ (x : StorePlan). x.fresh) q)
 
-    fits_is : p.room ≡ store_fits c k v p.look p.fresh b.changes b.fetched b.paid
+    fits_is : p.room ≡ store_fits c.changes c.fetched c.paid k v p.look p.fresh b.changes b.fetched b.paid
     unfolding store_plan
     fits_is = ap (λ (x : StorePlan). x.room) q ∙ room_is p.look p.fresh seen_is pays_is
 

@@ -24,12 +24,12 @@ PlansStore l g c b k v p = Good c b → p ≡ store_plan (rooms_of b) (key_env_o
 abbrev pub Stores : TableRows → Given → (k v : ℕ) → StorePlan → (c r : Counts) → (b a : KeyBufs) → Type 0
 Stores l g k v p c r b a = Good c b → p ≡ store_plan (rooms_of b) (key_env_of l g) (keys_of c b) k v → Leaves (stored (key_env_of l g) (keys_of c b) k v) r a
 
--- the three tables that a store changes hold what it puts into them
-unfoldable pub store_fits : Counts → (k v : ℕ) → Look → Bool → (changes fetched paid : List ℕ) → Bool
-store_fits c k v seen fresh changes fetched paid =
-    both (holds 40 c.changes true (row k v) changes)
-    (both (holds 40 c.fetched seen.came (row k seen.value) fetched)
-    (holds 32 c.paid fresh (row k 0) paid))
+-- the three tables that a store changes, of so many rows, hold what it puts into them
+unfoldable pub store_fits : (nc nf np : ℕ) (k v : ℕ) → Look → Bool → (changes fetched paid : List ℕ) → Bool
+store_fits nc nf np k v seen fresh changes fetched paid =
+    both (holds 40 nc true (row k v) changes)
+    (both (holds 40 nf seen.came (row k seen.value) fetched)
+    (holds 32 np fresh (row k 0) paid))
 
 -- what a store asks of its three tables
 pub record StoreReady (c : Counts) (p : StorePlan) (k v : ℕ) (changes fetched paid : List ℕ) : Type 0 where

@@ -1,7 +1,7 @@
 -- The value at a key, and the right to it (document 01, The run: SLoad and SStore).
-use Rattle.std.specs.Prelude.{Bool, true, false, List, ℕ}
-use Rattle.std.proofs.Math.Option.{Option, some, none}
-use Rattle.words.specs.Choice.{pick, either, is_some}
+use Rattle.std.specs.Prelude.{Bool, true, false, List, ℕ, Option, Some, None, is_some}
+use Rattle.std.specs.Option.{unwrap_or}
+use Rattle.words.specs.Choice.{pick, either}
 use Rattle.words.specs.Lists.{member}
 use Rattle.tables.specs.Rows.{Row, lookup, insert}
 use Rattle.keys.specs.Known.{KeyEnv, Keys}
@@ -29,18 +29,17 @@ may_load ds ws rs k = either (member k ds) (either (member k ws) (has k rs))
 
 -- 0 where there is no value
 unfoldable pub or_zero : Option ℕ → ℕ
-or_zero none = 0
-or_zero (some v) = v
+or_zero o = unwrap_or o 0
 
 -- from the loader it comes just now; a loader answers 0 for a key that it does not have
 unfoldable pub from_loader : Option (List Row) → ℕ → Look
-from_loader none k = record { value = 0; came = false }
-from_loader (some ls) k = record { value = or_zero (lookup k ls); came = true }
+from_loader None k = record { value = 0; came = false }
+from_loader (Some ls) k = record { value = or_zero (lookup k ls); came = true }
 
 -- a value that stands, else what is looked up next
 unfoldable pub first_of : Option ℕ → Look → Look
-first_of none l = l
-first_of (some v) l = record { value = v; came = false }
+first_of None l = l
+first_of (Some v) l = record { value = v; came = false }
 
 -- stored, else the store's, else fetched before, else the loader's, else 0
 unfoldable pub look_in : (changes store fetched : List Row) → Option (List Row) → ℕ → Look

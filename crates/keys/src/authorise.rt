@@ -1,5 +1,5 @@
 // Authorising a key made from a base: a plan that only reads, then the change.
-ghost use Rattle.std.specs.Prelude.{◌≡◌, not, List, ℕ, length};
+ghost use Rattle.std.specs.Prelude.{◌≡◌, not, List, ℕ};
 ghost use Rattle.words.specs.Bytes.{num, words_in};
 ghost use Rattle.words.specs.Choice.{both, either, bit};
 ghost use Rattle.words.specs.Lists.{member};
@@ -10,6 +10,7 @@ ghost use Rattle.keys.specs.KeyPlans.{key_fits, KeyReady, PlansKey, Authorises};
 ghost use Rattle.keys.specs.declared.look.TableRows.{TableRows};
 
 use crate::counts::Counts;
+use tables::rows::Rows;
 
 // What it comes to: whether the base is declared keyed, and for writing; the price, the bytes of new entries, and whether all of it has room.
 #[derive(Clone, Copy)]
@@ -25,39 +26,26 @@ pub struct KeyPlan {
 fn is_keyed(write: bool, keyed_reads: &[u8], base: u64) -> bool
     ensures { result ≡ either write (member base (words_in keyed_reads.now)) }
 {
-    if write {
-        return true;
-    }
-    crate::slots::listed(keyed_reads, base)
+    write || crate::slots::listed(keyed_reads, base)
 }
 
 // What it costs to authorise a key that stands in either list, or in none.
+#[tactic(auto, unfolding(crate::specs::Steps::key_price))]
 fn key_price(written: bool, read: bool) -> u64
     ensures { result ≡ key_price written read }
 {
-    if written {
-        return 0;
-    }
-    if read {
-        return 0;
-    }
-    948
+    if written || read { 0 } else { 948 }
 }
 
 // One for a key that goes into a list where it does not stand, else none.
 fn new_entry(goes: bool, stands: bool) -> u64
     ensures { result ≡ bit (both goes (not stands)) }
 {
-    if !goes {
-        return 0;
-    }
-    if stands {
-        return 0;
-    }
-    1
+    u64::from(goes && !stands)
 }
 
 // The bytes that new entries count.
+#[tactic(auto, unfolding(crate::specs::Steps::key_bytes))]
 fn key_bytes(write: bool, written: bool, read: bool) -> u64
     ensures { result ≡ key_bytes write written read }
 {
@@ -65,14 +53,12 @@ fn key_bytes(write: bool, written: bool, read: bool) -> u64
 }
 
 // Whether the key has room among the readable keys, and the writable ones if it is to be written.
-fn key_room(c: Counts, readable: &[u8], writable: &[u8], key: &[u8], write: bool) -> bool
-    requires { Table 32 c.reads readable.now × Table 32 c.writes writable.now × (length key.now ≡ 32) }
-    ensures { result ≡ key_fits c (num key.now) write readable.now writable.now }
+#[tactic(auto, unfolding(crate::specs::KeyPlans::key_fits))]
+fn key_room(readable: Rows<32>, writable: Rows<32>, key: &[u8; 32], write: bool) -> bool
+    ensures { result ≡
+        key_fits readable.entry.count writable.entry.count (num key.now) write readable.entry.bytes.now writable.entry.bytes.now }
 {
-    if !crate::room::room(readable, c.reads, 32, key, true) {
-        return false;
-    }
-    crate::room::room(writable, c.writes, 32, key, write)
+    crate::room::room(readable, key, true) && crate::room::room(writable, key, write)
 }
 
 // What authorising a key made from a base comes to. Changes nothing.
@@ -83,26 +69,34 @@ pub fn plan_authorise(
     readable: &[u8],
     writable: &[u8],
     base: u64,
-    key: &[u8],
+    key: &[u8; 32],
 ) -> KeyPlan
-    requires { Table 32 c.reads readable.now × Table 32 c.writes writable.now × (length key.now ≡ 32) }
+    requires { Table 32 c.reads readable.now × Table 32 c.writes writable.now }
     ensures { (l : TableRows) (rd wr st ld ch fe pd : List ℕ) →
         PlansKey l (given rd wr keyed_reads.now keyed_writes.now st ld) c
         (key_bufs ch fe readable.now writable.now pd) base (num key.now) result }
 {
+    let readable: Rows<32> = Rows {
+        bytes: readable,
+        count: c.reads,
+    };
+    let writable: Rows<32> = Rows {
+        bytes: writable,
+        count: c.writes,
+    };
     let write = crate::slots::listed(keyed_writes, base);
     let keyed = is_keyed(write, keyed_reads, base);
-    let written = tables::rows::has(writable, c.writes, 32, key);
-    let read = tables::rows::has(readable, c.reads, 32, key);
+    let written = writable.has(key);
+    let read = readable.has(key);
     let price = key_price(written, read);
     let bytes = key_bytes(write, written, read);
-    let room = key_room(c, readable, writable, key, write);
+    let room = key_room(readable, writable, key, write);
     KeyPlan {
-        keyed: keyed,
-        write: write,
-        price: price,
-        bytes: bytes,
-        room: room,
+        keyed,
+        write,
+        price,
+        bytes,
+        room,
     }
 }
 
@@ -112,16 +106,15 @@ pub fn authorise(
     plan: KeyPlan,
     readable: &mut [u8],
     writable: &mut [u8],
-    key: &[u8],
+    key: &[u8; 32],
 ) -> Counts
-    requires { KeyReady c plan (num key.now) readable.old writable.old × (length key.now ≡ 32) }
+    requires { KeyReady c plan (num key.now) readable.old writable.old }
     ensures { (l : TableRows) (g : Given) (base : ℕ) (ch fe pd : List ℕ) →
         Authorises l g base (num key.now) plan c result
         (key_bufs ch fe readable.old writable.old pd)
         (key_bufs ch fe readable.new writable.new pd) }
 {
-    let mut d = c;
-    d.reads = crate::room::add_if(readable, c.reads, key, true);
-    d.writes = crate::room::add_if(writable, c.writes, key, plan.write);
-    d
+    let reads = crate::room::add_if(readable, c.reads, key, true);
+    let writes = crate::room::add_if(writable, c.writes, key, plan.write);
+    Counts { reads, writes, ..c }
 }

@@ -1,4 +1,5 @@
-// How many rows stand in each table.
+// How many rows stand in each table. They stay apart from the bytes, which are written: a plan speaks of all five tables
+// (`PlansStore`, `PlansLoad`, `PlansKey`), and a run takes the counts along by value.
 #[derive(Clone, Copy)]
 pub struct Counts {
     pub changes: usize,

@@ -1,13 +1,14 @@
 // The value at a key.
-ghost use Rattle.std.specs.Prelude.{◌≡◌, length};
+ghost use Rattle.std.specs.Prelude.{◌≡◌};
 ghost use Rattle.words.specs.Bytes.{num};
 ghost use Rattle.tables.specs.Rows.{rows};
-ghost use Rattle.tables.specs.Table.{Table};
+ghost use Rattle.tables.specs.Content.{content};
 ghost use Rattle.keys.specs.Values.{look_in, from_loader};
 ghost use Rattle.keys.specs.Lent.{loader_of};
 ghost use Rattle.keys.specs.Sound.{Loader};
+ghost use Rattle.keys.specs.Tables.{loaded};
 
-use tables::rows::Got;
+use tables::rows::Rows;
 
 // A value, and whether it came from the loader just now.
 #[derive(Clone, Copy)]
@@ -24,66 +25,57 @@ pub struct TableRows {
     pub loader: usize,
 }
 
-// The loader's value at a key: 0 if it does not have it, or there is none.
-fn fetch(has_loader: bool, loader: &[u8], n: usize, key: &[u8]) -> Look
-    requires { Loader has_loader n loader.now × (length key.now ≡ 32) }
-    ensures { result ≡ from_loader (loader_of has_loader (rows 40 n loader.now)) (num key.now) }
+// The loader's table, if there is a loader.
+pub fn loader_table(lent: TableRows, loader: &[u8]) -> Option<Rows<'_, 40>>
+    requires { Loader lent.has_loader lent.loader loader.now }
+    ensures { loaded result ≡ loader_of lent.has_loader (rows 40 lent.loader loader.now) }
 {
-    if !has_loader {
-        return Look {
-            value: 0,
-            came: false,
-        };
+    if lent.has_loader {
+        Some(Rows {
+            bytes: loader,
+            count: lent.loader,
+        })
+    } else {
+        None
     }
-    let d = tables::rows::get(loader, n, key);
-    match d {
-        Got::Value(v) => Look {
-            value: v,
+}
+
+// The loader's value at a key: 0 if it does not have it, or there is none.
+#[tactic(auto, unfolding(crate::specs::Values::from_loader, crate::specs::Values::or_zero))]
+fn fetch(loader: Option<Rows<40>>, key: &[u8; 32]) -> Look
+    ensures { result ≡ from_loader (loaded loader.entry) (num key.now) }
+{
+    match loader {
+        Some(t) => Look {
+            value: t.get(key).unwrap_or(0),
             came: true,
         },
-        Got::Nothing => Look {
+        None => Look {
             value: 0,
-            came: true,
+            came: false,
         },
     }
 }
 
 // The value at a key: stored, else the store's, else fetched before, else the loader's, else 0.
+#[tactic(auto, unfolding(crate::specs::Values::look_in, crate::specs::Values::first_of))]
 pub fn look_up(
-    lent: TableRows,
-    store: &[u8],
-    loader: &[u8],
-    changes: &[u8],
-    nc: usize,
-    fetched: &[u8],
-    nf: usize,
-    key: &[u8],
+    store: Rows<40>,
+    loader: Option<Rows<40>>,
+    changes: Rows<40>,
+    fetched: Rows<40>,
+    key: &[u8; 32],
 ) -> Look
-    requires { Table 40 nc changes.now × Table 40 lent.store store.now × Table 40 nf fetched.now
-        × Loader lent.has_loader lent.loader loader.now × (length key.now ≡ 32) }
-    ensures { result ≡ look_in (rows 40 nc changes.now) (rows 40 lent.store store.now) (rows 40 nf fetched.now)
-        (loader_of lent.has_loader (rows 40 lent.loader loader.now)) (num key.now) }
+    ensures { result ≡ look_in (content changes.entry) (content store.entry) (content fetched.entry) (loaded loader.entry) (num key.now) }
 {
-    let a = tables::rows::get(changes, nc, key);
-    if let Got::Value(v) = a {
-        return Look {
-            value: v,
-            came: false,
-        };
+    if let Some(value) = changes.get(key) {
+        return Look { value, came: false };
     }
-    let b = tables::rows::get(store, lent.store, key);
-    if let Got::Value(v) = b {
-        return Look {
-            value: v,
-            came: false,
-        };
+    if let Some(value) = store.get(key) {
+        return Look { value, came: false };
     }
-    let c = tables::rows::get(fetched, nf, key);
-    if let Got::Value(v) = c {
-        return Look {
-            value: v,
-            came: false,
-        };
+    if let Some(value) = fetched.get(key) {
+        return Look { value, came: false };
     }
-    fetch(lent.has_loader, loader, lent.loader, key)
+    fetch(loader, key)
 }

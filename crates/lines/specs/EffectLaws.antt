@@ -1,12 +1,15 @@
 -- An effect's line from its pieces, and from what the newest record tells. Assumes nothing.
-use Rattle.std.specs.Prelude.{◌≡◌, refl, true, ℕ, ◌+◌, ◌*◌, ◌/◌, ◌≤◌, ◌<◌, leb, length, drop, replicate}
+use Rattle.std.specs.Int.{to_be_bytes}
+use Rattle.std.proofs.Math.Nat.{div-div-eq-div-mul}
+use Rattle.std.specs.Prelude.{◌≡◌, refl, true, ℕ, ◌+◌, ◌*◌, ◌/◌, ◌≤◌, ◌<◌, leb, length, drop}
 use Rattle.std.proofs.Math.Path.{ap, subst}
-use Rattle.std.proofs.Common.{◌∙◌, arith, length-drop, take_all, length-take-le}
-use mathlib.Core.List.{List, [], ◌∷◌, ◌++◌, append-nil}
+use Rattle.std.proofs.Common.{◌∙◌, arith, w64, length-drop, length-take-le}
+use mathlib.Core.List.{List, [], ◌∷◌}
 use Rattle.std.proofs.Math.ListN.{take}
-use Rattle.std.proofs.Math.Seq.{paste, paste-zero}
+use Rattle.std.proofs.Math.Seq.{paste-zero}
 use borrow.Author.Tests.{le-leb, lt-leb, eq-eqb, ne_eqb}
 use Rattle.words.specs.Laid.{Laid}
+use Rattle.words.specs.Bytes.{be_bytes}
 use Rattle.words.specs.BytesLaws.{length_be_bytes}
 use Rattle.text.specs.Decimal.{field_of}
 use Rattle.text.specs.LaidLaws.{field_room, laid_next}
@@ -42,12 +45,10 @@ event_laid d t u v w x s word a b c e r h i j k l m =
     let two = laid_next (omega arith) i j in
     laid_next (omega (arith, m.end, length_hex s)) (laid_next (omega arith) (laid_next (omega arith) two k) l) m
 
--- four bytes written over four
-pub four_written : {u : List ℕ} (word : ℕ) → u ≡ paste (replicate 4 0) 0 (selector_of word) 4 → u ≡ selector_of word
-unfolding selector_of
-four_written word p =
-    let n = length_be_bytes 4 (word / 4294967296) in
-    p ∙ ap (λ (l : List ℕ). l ++ []) (take_all 4 (selector_of word) (omega arith)) ∙ append-nil (selector_of word)
+-- the first four of a word's bytes
+pub first_four : (word : ℕ) → take 4 (to_be_bytes w64 word) ≡ selector_of word
+unfolding selector_of be_bytes
+first_four word = simp div-div-eq-div-mul refl
 
 -- the bytes between two places of a log
 pub part_length : (log : List ℕ) (from n m : ℕ) → m ≡ n → from + n ≤ length log → length (take m (drop from log)) ≡ n

@@ -1,31 +1,15 @@
--- What an arm of a match on a number is told decides its name. Assumes nothing.
+-- How long a name is. Assumes nothing.
 use Rattle.std.specs.Prelude.{◌≡◌, refl, List, [], ◌∷◌, Bool, true, false, ℕ, ◌≤◌, eqb, leb, length}
-use Rattle.std.proofs.Common.{arith, ne_eqb, leb-true}
+use Rattle.std.proofs.Common.{arith, leb-true}
 use Rattle.words.specs.Choice.{pick, both}
 use Rattle.words.specs.ChoiceLaws.{both_left, both_right}
 use Rattle.words.specs.Laid.{Laid}
 use Rattle.text.specs.Ascii.{ascii}
 use Rattle.lines.specs.Names.{Named, name_in, run_names, verify_names, added_names, name_of, later_name, added_name}
 
--- an arm is told its number
-pub laid_name : {d b u : List ℕ} {at r n k : ℕ} (f : ℕ → List ℕ) → n ≡ k → f k ≡ b → Laid d at b u r → Laid d at (f n) u r
-laid_name f e h x = rw (e, h) x
-
--- the last arm has another's text
+-- a text laid is laid under each of its names
 pub laid_as : {d a b u : List ℕ} {at r : ℕ} → a ≡ b → Laid d at b u r → Laid d at a u r
 laid_as e x = rw e x
-
--- what the last arm is given: that the number is none of the listed ones
-abbrev pub Rest : Type 0 → List Named → ℕ → Type 0
-Rest N [] n = N
-Rest N (x ∷ xs) n = Rest (N × (n ≡ x.number → ⊥)) xs n
-
-pub none_of : (N : Type 0) (xs : List Named) (n : ℕ) (other : List ℕ) → Rest N xs n → (name_in xs n other ≡ other) × N
-unfolding name_in
-none_of N [] n other r = (refl, r)
-none_of N (x ∷ xs) n other r =
-    let h = none_of (N × (n ≡ x.number → ⊥)) xs n other r in
-    (rw (ne_eqb n x.number h.1.1) h.0, h.1.0)
 
 -- every listed name takes at most 24 bytes
 abbrev all_short : List Named → Bool

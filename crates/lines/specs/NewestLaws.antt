@@ -10,9 +10,6 @@ use Rattle.effects.specs.declared.trailer.Trailer.{Trailer}
 pub record BeforeNewest (log : List ℕ) (end at i : ℕ) : Type 0 where
   pub left : (es : List Effect) → FitTrailers es → take end log ≡ log_of es → FitTrailers (drop i es) × (take at log ≡ log_of (drop i es))
 
-pub before_none : (log : List ℕ) (end : ℕ) → BeforeNewest log end end 0
-before_none log end = record { left = λ es s q. (s, q) }
-
 pub before_one : (log : List ℕ) (end at i : ℕ) (t : Trailer) → 0 < at → at ≤ length log → EndingAt log at t →
     BeforeNewest log end at i → BeforeNewest log end t.from (i + 1)
 unfolding trailer_of log_of

@@ -1,6 +1,6 @@
 -- Verdict's lines from their pieces, and which one a container gets. Assumes nothing.
-use Rattle.std.specs.Prelude.{◌≡◌, List, ℕ, ◌≤◌, ◌<◌, length}
-use Rattle.std.proofs.Common.{ap, arith, le-leb}
+use Rattle.std.specs.Prelude.{◌≡◌, List, ℕ, ◌≤◌, ◌<◌, length, Result}
+use Rattle.std.proofs.Common.{arith, le-leb}
 use Rattle.text.specs.Ascii.{ascii}
 use Rattle.text.specs.Decimal.{field_of}
 use Rattle.text.specs.LaidLaws.{field_room, laid_next}
@@ -10,14 +10,9 @@ use Rattle.words.specs.Refusals.{refusal}
 use Rattle.words.specs.declared.refusal.Refusal.{Refusal}
 use Rattle.container.specs.Reader.{read_of}
 use Rattle.container_verify.specs.Verify.{verified_of}
-use Rattle.container.specs.Answers.{read_error}
-use Rattle.container_verify.specs.Answers.{verify_error}
-use Rattle.container.specs.declared.reader.ReadError.{ReadError}
-use Rattle.container_verify.specs.declared.verify.VerifyError.{VerifyError}
-use Rattle.container_verify.specs.declared.verify.Verified.{Verified}
-use Rattle.container_verify.specs.declared.verify.Verified.TheVariants.{Valid, Unreadable, Refused}
 use Rattle.container.specs.declared.reader.Layout.{Layout}
 use Rattle.lines.specs.VerdictLine.{newline, ok_line, no_line, line_for, line_of}
+use Rattle.container_verify.specs.declared.verify.Invalid.{Invalid}
 
 pub no_laid : (d u v w : List ℕ) (a : Refusal) (r s t : ℕ) → 96 ≤ length d → Laid d 0 (field_of (ascii "no ") a.number) u r →
     Laid u r (field_of (ascii " ") a.argument) v s → Laid v s newline w t → Laid d 0 (no_line a) w t
@@ -41,26 +36,7 @@ unfolding line_of
 long_is s h = rw (lt-leb (length s) 49152 h)
 
 module _ (d u : List ℕ) (r : ℕ) where
-  pub line_valid : (v : Verified) (l : Layout) → v ≡ Valid l → Laid d 0 (ok_line l) u r → Laid d 0 (line_for v) u r
-  unfolding line_for
-  line_valid v l e x = rw e x
-
-  -- a refusal's line has its number and its argument
-  line_no : (v : Verified) (a w : Refusal) → line_for v ≡ no_line a → w ≡ a → Laid d 0 (no_line w) u r → Laid d 0 (line_for v) u r
-  line_no v a w e q h = rw (e, ← q) h
-
-  pub line_unreadable : (v : Verified) (x : ReadError) (w : Refusal) → v ≡ Unreadable x → w ≡ read_error x → Laid d 0 (no_line w) u r → Laid d 0 (line_for v) u r
-  unfolding line_for
-  line_unreadable v x w e = line_no v (read_error x) w (ap line_for e)
-
-  pub line_refused : (v : Verified) (x : VerifyError) (w : Refusal) → v ≡ Refused x → w ≡ verify_error x → Laid d 0 (no_line w) u r → Laid d 0 (line_for v) u r
-  unfolding line_for
-  line_refused v x w e = line_no v (verify_error x) w (ap line_for e)
-
-  pub line_long : (s : List ℕ) → 49152 < length s → Laid d 0 (no_line (refusal 48 0)) u r → Laid d 0 (line_of s) u r
-  line_long s h x = rw (long_is s h) x
-
-  pub line_short : (s : List ℕ) (v : Verified) → length s ≤ 49152 → v ≡ verified_of (read_of s) →
+  pub line_short : (s : List ℕ) (v : Result Layout Invalid) → length s ≤ 49152 → v ≡ verified_of (read_of s) →
       Laid d 0 (line_for v) u r → Laid d 0 (line_of s) u r
   unfolding line_of
   line_short s v h e x = rw (le-leb (length s) 49152 h, ← e) x

@@ -1,5 +1,5 @@
 -- The line that verdict prints for a container's bytes (document 01, Container).
-use Rattle.std.specs.Prelude.{List, [], ◌∷◌, ◌++◌, ℕ, leb, length}
+use Rattle.std.specs.Prelude.{List, [], ◌∷◌, ◌++◌, ℕ, leb, length, Result, Ok, Err}
 use Rattle.words.specs.Choice.{pick}
 use Rattle.text.specs.Ascii.{ascii}
 use Rattle.text.specs.Decimal.{field_of}
@@ -7,11 +7,9 @@ use Rattle.words.specs.Refusals.{refusal}
 use Rattle.words.specs.declared.refusal.Refusal.{Refusal}
 use Rattle.container.specs.Reader.{read_of}
 use Rattle.container_verify.specs.Verify.{verified_of}
-use Rattle.container.specs.Answers.{read_error}
-use Rattle.container_verify.specs.Answers.{verify_error}
+use Rattle.container_verify.specs.Answers.{invalid_refusal}
 use Rattle.container.specs.declared.reader.Layout.{Layout}
-use Rattle.container_verify.specs.declared.verify.Verified.{Verified}
-use Rattle.container_verify.specs.declared.verify.Verified.TheVariants.{Valid, Unreadable, Refused}
+use Rattle.container_verify.specs.declared.verify.Invalid.{Invalid}
 
 abbrev pub newline : List ℕ
 newline = 10 ∷ []
@@ -25,10 +23,9 @@ ok_line l =
 unfoldable pub no_line : Refusal → List ℕ
 no_line a = (field_of (ascii "no ") a.number ++ field_of (ascii " ") a.argument) ++ newline
 
-unfoldable pub line_for : Verified → List ℕ
-line_for (Valid l) = ok_line l
-line_for (Unreadable e) = no_line (read_error e)
-line_for (Refused e) = no_line (verify_error e)
+unfoldable pub line_for : Result Layout Invalid → List ℕ
+line_for (Ok l) = ok_line l
+line_for (Err e) = no_line (invalid_refusal e)
 
 -- more than 49152 bytes are 48
 unfoldable pub line_of : List ℕ → List ℕ

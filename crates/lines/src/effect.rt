@@ -5,12 +5,16 @@ ghost use Rattle.effects.specs.Log.{Effect, FitTrailers, log_of};
 ghost use Rattle.text.specs.Hex.{hex_of};
 ghost use Rattle.lines.specs.EffectLines.{transfer_line, selector_of, event_line, line_within};
 
+use effects::trailer::record_ending_at;
 use text::decimal::field;
 use text::hex::hex;
 use words::laid::put_bytes;
 
 // What a line takes beside the digits of its bytes.
 const LEAST: usize = 80;
+
+// The kind of a transfer's record.
+const TRANSFER: u8 = 0;
 
 fn transfer_line(out: &mut [u8], amount: u64, target: &[u8]) -> usize
     requires { length target.now * 2 + 80 ≤ length out.old }
@@ -21,13 +25,12 @@ fn transfer_line(out: &mut [u8], amount: u64, target: &[u8]) -> usize
     hex(out, b, target)
 }
 
+// The selector of an event is its word's first four bytes.
 fn selector(out: &mut [u8], at: usize, word: u64) -> usize
     requires { at + 8 ≤ length out.old }
     ensures { Laid out.old at (hex_of (selector_of word)) out.new result }
 {
-    let mut four = [0u8; 4];
-    words::bytes::write(&mut four, 0, 4, word / 4294967296);
-    hex(out, at, &four)
+    hex(out, at, &word.to_be_bytes()[..4])
 }
 
 fn event_line(out: &mut [u8], word: u64, bytes: &[u8]) -> usize
@@ -47,19 +50,16 @@ pub fn effect_line(out: &mut [u8], log: &[u8], at: usize) -> usize
     ensures { (e : Effect) (es : List Effect) → FitTrailers (e ∷ es) → take at log.now ≡ log_of (e ∷ es) →
         Laid out.old 0 (line_within (length out.old) e) out.new result }
 {
-    let t = effects::trailer::record_ending_at(log, at);
-    if out.len() < LEAST {
+    let t = record_ending_at(log, at);
+    if out.len() < LEAST || (out.len() - LEAST) / 2 < t.length {
         return 0;
     }
-    if (out.len() - LEAST) / 2 < t.length {
-        return 0;
+    let data = &log[t.from..t.from + t.length];
+    if t.kind == TRANSFER {
+        transfer_line(out, t.word, data)
+    } else {
+        event_line(out, t.word, data)
     }
-    let from = t.from;
-    let end = from + t.length;
-    if t.kind == 0 {
-        return transfer_line(out, t.word, &log[from..end]);
-    }
-    event_line(out, t.word, &log[from..end])
 }
 
 // Where a log of so many bytes ends without its k newest records.
@@ -69,14 +69,11 @@ pub fn end_before_newest(log: &[u8], end: usize, k: usize) -> usize
         take result log.now ≡ log_of (drop k es)) }
 {
     let mut at = end;
-    let mut i = 0;
-    while i < k {
+    for _i in 0..k {
         if at == 0 {
             return 0;
         }
-        let t = effects::trailer::record_ending_at(log, at);
-        at = t.from;
-        i += 1;
+        at = record_ending_at(log, at).from;
     }
     at
 }

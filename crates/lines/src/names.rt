@@ -1,70 +1,67 @@
 // The names of document 01's numbers.
-ghost use Rattle.std.specs.Prelude.{◌+◌, ◌≤◌, length};
-ghost use Rattle.words.specs.Laid.{Laid};
+ghost use Rattle.std.specs.Prelude.{◌≡◌};
 ghost use Rattle.lines.specs.Names.{added_name, later_name, name_of};
 
-use words::laid::put_bytes;
-
-fn added_name(out: &mut [u8], at: usize, number: u64) -> usize
-    requires { at + 24 ≤ length out.old }
-    ensures { Laid out.old at (added_name number) out.new result }
+#[tactic(auto, unfolding(crate::specs::Names::added_name, crate::specs::Names::name_in, text::specs::Ascii::ascii))]
+fn added_name(number: u64) -> &'static [u8]
+    ensures { result.now ≡ added_name number }
 {
     match number {
-        41 => put_bytes(out, at, b"BadTag"),
-        42 => put_bytes(out, at, b"Short"),
-        43 => put_bytes(out, at, b"Trailing"),
-        44 => put_bytes(out, at, b"BadBuffer"),
-        45 => put_bytes(out, at, b"BadTable"),
-        46 => put_bytes(out, at, b"BadReply"),
-        47 => put_bytes(out, at, b"NoReply"),
-        48 => put_bytes(out, at, b"NoRoom"),
-        49 => put_bytes(out, at, b"BadList"),
-        50 => put_bytes(out, at, b"NotRegister"),
-        _ => put_bytes(out, at, b"Unnamed"),
+        41 => b"BadTag",
+        42 => b"Short",
+        43 => b"Trailing",
+        44 => b"BadBuffer",
+        45 => b"BadTable",
+        46 => b"BadReply",
+        47 => b"NoReply",
+        48 => b"NoRoom",
+        49 => b"BadList",
+        50 => b"NotRegister",
+        _ => b"Unnamed",
     }
 }
 
-fn later_name(out: &mut [u8], at: usize, number: u64) -> usize
-    requires { at + 24 ≤ length out.old }
-    ensures { Laid out.old at (later_name number) out.new result }
+#[tactic(auto, unfolding(crate::specs::Names::later_name, crate::specs::Names::name_in, text::specs::Ascii::ascii))]
+fn later_name(number: u64) -> &'static [u8]
+    ensures { result.now ≡ later_name number }
 {
     match number {
-        21 => put_bytes(out, at, b"CodeTooLarge"),
-        22 => put_bytes(out, at, b"ConstsTooLarge"),
-        23 => put_bytes(out, at, b"EntriesTooLarge"),
-        24 => put_bytes(out, at, b"UndecodableCode"),
-        25 => put_bytes(out, at, b"ConstIndexOutOfRange"),
-        26 => put_bytes(out, at, b"MisalignedTarget"),
-        27 => put_bytes(out, at, b"EntryOffsetMisaligned"),
-        28 => put_bytes(out, at, b"DuplicateSelector"),
-        29 => put_bytes(out, at, b"AccessListTooLarge"),
-        _ => added_name(out, at, number),
+        21 => b"CodeTooLarge",
+        22 => b"ConstsTooLarge",
+        23 => b"EntriesTooLarge",
+        24 => b"UndecodableCode",
+        25 => b"ConstIndexOutOfRange",
+        26 => b"MisalignedTarget",
+        27 => b"EntryOffsetMisaligned",
+        28 => b"DuplicateSelector",
+        29 => b"AccessListTooLarge",
+        _ => added_name(number),
     }
 }
 
-// A number's name at a place, and where it ends.
-pub(crate) fn name(out: &mut [u8], at: usize, number: u64) -> usize
-    requires { at + 24 ≤ length out.old }
-    ensures { Laid out.old at (name_of number) out.new result }
+// A number's name.
+#[tactic(auto, unfolding(crate::specs::Names::name_of, crate::specs::Names::name_in, text::specs::Ascii::ascii))]
+pub(crate) fn name_of(number: u64) -> &'static [u8]
+    ensures { result.now ≡ name_of number }
 {
     match number {
-        1 => put_bytes(out, at, b"OutOfMeter"),
-        2 => put_bytes(out, at, b"Overflow"),
-        3 => put_bytes(out, at, b"DivByZero"),
-        4 => put_bytes(out, at, b"StackOverflow"),
-        5 => put_bytes(out, at, b"StackUnderflow"),
-        6 => put_bytes(out, at, b"BadMemory"),
-        7 => put_bytes(out, at, b"BadJump"),
-        8 => put_bytes(out, at, b"BadConst"),
-        9 => put_bytes(out, at, b"UnknownSelector"),
-        10 => put_bytes(out, at, b"BadScheme"),
-        11 => put_bytes(out, at, b"EffectsTooLarge"),
-        12 => put_bytes(out, at, b"UndeclaredSlot"),
-        13 => put_bytes(out, at, b"CryptoFault"),
-        14 => put_bytes(out, at, b"Malformed"),
-        15 => put_bytes(out, at, b"UnknownOpcode"),
-        16 => put_bytes(out, at, b"BadRegister"),
-        17 => put_bytes(out, at, b"Truncated"),
-        _ => later_name(out, at, number),
+        1 => b"OutOfMeter",
+        2 => b"Overflow",
+        3 => b"DivByZero",
+        4 => b"StackOverflow",
+        5 => b"StackUnderflow",
+        6 => b"BadMemory",
+        7 => b"BadJump",
+        8 => b"BadConst",
+        9 => b"UnknownSelector",
+        10 => b"BadScheme",
+        11 => b"EffectsTooLarge",
+        12 => b"UndeclaredSlot",
+        13 => b"CryptoFault",
+        14 => b"Malformed",
+        15 => b"UnknownOpcode",
+        16 => b"BadRegister",
+        17 => b"Truncated",
+        _ => later_name(number),
     }
 }

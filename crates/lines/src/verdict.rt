@@ -4,13 +4,16 @@ ghost use Rattle.words.specs.Laid.{Laid};
 ghost use Rattle.lines.specs.VerdictLine.{ok_line, no_line, line_for, line_of};
 
 use container::reader::Layout;
-use container_verify::verify::Verified;
+use container_verify::verify::{Invalid, verify};
 use text::decimal::field;
 use words::laid::put_bytes;
 use words::refusal::Refusal;
 
 // The longest container that verdict reads.
 const MOST: usize = 49152;
+
+// What a longer one is answered with.
+const NO_ROOM: u64 = 48;
 
 fn ok_line(out: &mut [u8], l: Layout) -> usize
     requires { 96 ≤ length out.old }
@@ -32,14 +35,14 @@ fn no_line(out: &mut [u8], why: Refusal) -> usize
 }
 
 // The line for an answer of verify, and how long it is.
-pub fn line_for(out: &mut [u8], v: Verified) -> usize
+#[tactic(auto, unfolding(crate::specs::VerdictLine::line_for))]
+pub fn line_for(out: &mut [u8], v: Result<Layout, Invalid>) -> usize
     requires { 96 ≤ length out.old }
     ensures { Laid out.old 0 (line_for v) out.new result }
 {
     match v {
-        Verified::Valid(l) => ok_line(out, l),
-        Verified::Unreadable(e) => no_line(out, e.refusal()),
-        Verified::Refused(e) => no_line(out, e.refusal()),
+        Ok(l) => ok_line(out, l),
+        Err(e) => no_line(out, Refusal::from(e)),
     }
 }
 
@@ -50,13 +53,7 @@ pub fn line(s: &[u8], out: &mut [u8]) -> usize
     ensures { Laid out.old 0 (line_of s.now) out.new result }
 {
     if s.len() > MOST {
-        return no_line(
-            out,
-            Refusal {
-                number: 48,
-                argument: 0,
-            },
-        );
+        return no_line(out, Refusal::numbered(NO_ROOM));
     }
-    line_for(out, container_verify::verify::verify(s))
+    line_for(out, verify(s))
 }

@@ -1,5 +1,5 @@
 -- A run, step by step: its steps, and how it ends. Assumes nothing.
-use Rattle.std.specs.Prelude.{◌≡◌, Bool, true, false, List, [], ◌∷◌, ℕ, zero, suc, ◌+◌, ◌-◌, ◌≤◌, ◌<◌, leb, ltb}
+use Rattle.std.specs.Prelude.{◌≡◌, Bool, true, false, List, [], ◌∷◌, ℕ, zero, suc, ◌+◌, ◌-◌, ◌≤◌, ◌<◌, leb, ltb, Result, Ok, Err}
 use Rattle.std.proofs.Math.Path.{refl}
 use Rattle.std.proofs.Common.{ap, ◌∙◌, arith, leb-true}
 use Rattle.words.specs.Choice.{pick}
@@ -10,8 +10,6 @@ use Rattle.isa.specs.Answers.{decode_error}
 use Rattle.words.specs.Refusals.{refusal}
 use Rattle.words.specs.declared.refusal.Refusal.{Refusal}
 use Rattle.isa.specs.declared.instr.Instr.{Instr}
-use Rattle.isa.specs.declared.codec.Decoded.{Decoded}
-use Rattle.isa.specs.declared.codec.Decoded.TheVariants as decoded
 use Rattle.isa.specs.declared.codec.DecodeError.{DecodeError}
 use Rattle.isa.specs.declared.codec.DecodeError.TheVariants as error
 use Rattle.machine.specs.Machine.{Env, Machine, fetches_to}
@@ -53,11 +51,11 @@ finished e m i n s p l q k =
 
 -- ---- a turn
 
-pub data TurnEnds (e : Env) (m : Machine) : Decoded → Step → Type 0 where
-  unread : (x : DecodeError) (w : Refusal) → 1 ≤ w.number → TurnEnds e m (decoded.Refused x) (fault w)
-  faulting : (i : Instr) (n : ℕ) (w : Refusal) → 1 ≤ w.number → TurnEnds e m (decoded.Done i n) (fault w)
-  halting : (i : Instr) (n : ℕ) (p : Machine) → Finished e m i n (halt p) p → TurnEnds e m (decoded.Done i n) (halt p)
-  going : (i : Instr) (n : ℕ) (p : Machine) → Finished e m i n (next p) p → TurnEnds e m (decoded.Done i n) (next p)
+pub data TurnEnds (e : Env) (m : Machine) : Result (Instr × ℕ) DecodeError → Step → Type 0 where
+  unread : (x : DecodeError) (w : Refusal) → 1 ≤ w.number → TurnEnds e m (Err x) (fault w)
+  faulting : (i : Instr) (n : ℕ) (w : Refusal) → 1 ≤ w.number → TurnEnds e m (Ok (i, n)) (fault w)
+  halting : (i : Instr) (n : ℕ) (p : Machine) → Finished e m i n (halt p) p → TurnEnds e m (Ok (i, n)) (halt p)
+  going : (i : Instr) (n : ℕ) (p : Machine) → Finished e m i n (next p) p → TurnEnds e m (Ok (i, n)) (next p)
 
 refusal_numbered : (x : DecodeError) → 1 ≤ (decode_error x).number
 refusal_numbered (error.UnknownOpcode b) = omega arith
@@ -66,18 +64,18 @@ refusal_numbered error.Truncated = omega arith
 
 module _ (e : Env) (m : Machine) where
   -- an instruction's price, its next address, its step
-  instructed : (i : Instr) (n : ℕ) → TurnEnds e m (decoded.Done i n) (fetch_of e (decoded.Done i n) (fetches_to m (suc m.fetches)))
+  instructed : (i : Instr) (n : ℕ) → TurnEnds e m (Ok (i, n)) (fetch_of e (Ok (i, n)) (fetches_to m (suc m.fetches)))
   unfolding fetch_of step_of rule_of play
   instructed i n = at_price (leb (base_paid m i) e.limit) refl (ltb (m.pc + n) 4294967296)
     where
       stepped : base_paid m i ≤ e.limit → (s : Step) → step_of e i (fetched_from m i n) ≡ s →
-          Keeps e.limit (base_paid m i) (suc m.fetches) (rule_of e i (fetched_from m i n)) s → TurnEnds e m (decoded.Done i n) s
+          Keeps e.limit (base_paid m i) (suc m.fetches) (rule_of e i (fetched_from m i n)) s → TurnEnds e m (Ok (i, n)) s
       stepped l (next p) q k = going i n p (finished e m i n (next p) p l q k)
       stepped l (halt p) q k = halting i n p (finished e m i n (halt p) p l q k)
       stepped l (fault w) q h = faulting i n w h
 
       at_price : (a : Bool) → leb (base_paid m i) e.limit ≡ a → (b : Bool)
-          → TurnEnds e m (decoded.Done i n) (pick a (play e.limit (base_paid m i) (suc m.fetches) (need b 7 (rule_of e i (fetched_from m i n)))) (fault (refusal 1 0)))
+          → TurnEnds e m (Ok (i, n)) (pick a (play e.limit (base_paid m i) (suc m.fetches) (need b 7 (rule_of e i (fetched_from m i n)))) (fault (refusal 1 0)))
       at_price true l true =
           stepped (leb-true (base_paid m i) e.limit l) (step_of e i (fetched_from m i n)) refl (keeps e.limit (base_paid m i) (suc m.fetches) (rule_of e i (fetched_from m i n)))
       at_price true l false = faulting i n (refusal 7 0) (omega arith)
@@ -87,9 +85,9 @@ module _ (e : Env) (m : Machine) where
   unfolding turn_of fetch_of
   turned = go (decode_at e.code m.pc)
     where
-      go : (d : Decoded) → TurnEnds e m d (fetch_of e d (fetches_to m (suc m.fetches)))
-      go (decoded.Refused x) = unread x (decode_error x) (refusal_numbered x)
-      go (decoded.Done i n) = instructed i n
+      go : (d : Result (Instr × ℕ) DecodeError) → TurnEnds e m d (fetch_of e d (fetches_to m (suc m.fetches)))
+      go (Err x) = unread x (decode_error x) (refusal_numbered x)
+      go (Ok (i, n)) = instructed i n
 
 -- ---- a run
 
@@ -109,7 +107,7 @@ unfolding run_of steps_of steps_from end_of
 runs zero e m h = absurd (omega (arith, h))
 runs (suc n) e m h = go (decode_at e.code m.pc) (turn_of e m) (turned e m) (λ p. runs n e p)
   where
-    go : (d : Decoded) (s : Step) → TurnEnds e m d s → ((p : Machine) → e.limit - p.used < n → Traced e p (steps_of n e p) (run_of n e p)) →
+    go : (d : Result (Instr × ℕ) DecodeError) (s : Step) → TurnEnds e m d s → ((p : Machine) → e.limit - p.used < n → Traced e p (steps_of n e p) (run_of n e p)) →
         Traced e m (steps_from d m s (steps_of n e)) (end_of s (suc m.fetches) (run_of n e))
     go d s (unread x w z) more = faults m w z
     go d s (faulting i j w z) more = faults m w z

@@ -1,10 +1,13 @@
 -- How a turn that the code answers is what a rule comes to: condition by condition, price by price. Assumes nothing.
-use Rattle.std.specs.Prelude.{◌≡◌, Bool, true, false, List, leb, length}
+use Rattle.std.specs.Prelude.{◌≡◌, Bool, true, false, List, leb, length, Option, Some, None}
 use Rattle.std.proofs.Math.Path.{refl}
 use Rattle.std.proofs.Common.{sym, ap, ◌∙◌, subst, arith, length-set, leb-true}
 use Prim.Native.Nat.{ℕ, zero, suc, ◌+◌, ◌<◌}
 use Rattle.std.proofs.Math.Seq.{set_out}
 use Rattle.words.specs.Choice.{pick}
+use Rattle.words.specs.Refusals.{refusal}
+use Rattle.state.specs.Faults.{fault_refusal}
+use Rattle.state.specs.declared.fault.Fault.{Fault}
 use Rattle.state.specs.Regs.{set_reg}
 use Rattle.state.specs.declared.regs.RegFile.{RegFile}
 use Rattle.machine.specs.Machine.{Env, Machine, metered, bare}
@@ -17,9 +20,8 @@ use Rattle.machine.specs.RunParts.{with_used}
 use Rattle.machine.specs.SoundLaws.{used_sound}
 use Rattle.machine.specs.Does.{paid_by, sets, goes, stops, puts, Turned, Played}
 use Rattle.machine.specs.declared.run.Run.{Run}
-use Rattle.machine.specs.declared.run.Paid.{Paid}
-use Rattle.machine.specs.declared.run.Paid.TheVariants as paid
 use Rattle.machine.specs.declared.turn.Turn.{Turn}
+use Rattle.state.specs.declared.fault.Fault.TheVariants.{OutOfMeter}
 
 -- ---- registers
 
@@ -53,15 +55,15 @@ module _ {e : Env} {s : List ℕ} {d : ℕ} {f : RegFile} {u n : ℕ} {r : Rule}
   same_played {t} h x = record { turned = subst (λ (z : Step). Turned e s d f z t b) (h e.limit u n) x.turned }
 
   module _ {o : Run} where
-    pub pass_stops : (k : ℕ) → (k ≡ 0 → ⊥) → Played e s d f u n (pass k r) (stops o k) b
+    pub pass_stops : (g : Fault) (k : ℕ) → fault_refusal g ≡ refusal k 0 → (k ≡ 0 → ⊥) → Played e s d f u n (pass k r) (stops o g) b
     unfolding play
-    pass_stops zero h = absurd (h refl)
-    pass_stops (suc k) h = record { turned = (refl, omega arith) }
+    pass_stops g zero q h = absurd (h refl)
+    pass_stops g (suc k) q h = record { turned = (sym q, omega arith) }
 
-    pub need_stops : {ok : Bool} (k : ℕ) → 0 < k → ok ≡ false → Played e s d f u n (need ok k r) (stops o k) b
-    need_stops k l h = rw h (pass_stops k (λ z. omega arith))
+    pub need_stops : {ok : Bool} (g : Fault) (k : ℕ) → fault_refusal g ≡ refusal k 0 → 0 < k → ok ≡ false → Played e s d f u n (need ok k r) (stops o g) b
+    need_stops g k q l h = rw h (pass_stops g k q (λ z. omega arith))
 
-    pub pay_stops : {p : ℕ} → leb (u + p) e.limit ≡ false → Played e s d f u n (pay p r) (stops o 1) b
+    pub pay_stops : {p : ℕ} → leb (u + p) e.limit ≡ false → Played e s d f u n (pay p r) (stops o OutOfMeter) b
     unfolding play
     pay_stops h = record { turned = rw h (refl, omega arith) }
 
@@ -84,44 +86,44 @@ module _ {e : Env} {s : List ℕ} {d : ℕ} {r : Run} {b : Bufs} (so : Sound e s
     pub is : q ≡ with_used r (r.meter.used + p)
     pub sound : Sound e s d q b
 
-  abbrev paying : Bool → Paid
-  paying t = pick t (paid.Done (with_used r (r.meter.used + p))) paid.OutOfMeter
+  abbrev paying : Bool → Option Run
+  paying t = pick t (Some (with_used r (r.meter.used + p))) None
 
   limit_is : paid_by r p ≡ paying (leb (r.meter.used + p) e.limit)
   limit_is = rw so.metered.limit
 
-  pub pays_on : {x : Paid} {q : Run} → x ≡ paid_by r p → x ≡ paid.Done q → Pays q
+  pub pays_on : {x : Option Run} {q : Run} → x ≡ paid_by r p → x ≡ Some q → Pays q
   pays_on {x} {q} h k = go (leb (r.meter.used + p) e.limit) refl (sym k ∙ h ∙ limit_is)
     where
-      go : (t : Bool) → leb (r.meter.used + p) e.limit ≡ t → paid.Done q ≡ paying t → Pays q
+      go : (t : Bool) → leb (r.meter.used + p) e.limit ≡ t → Some q ≡ paying t → Pays q
       go true y z =
           let i : q ≡ with_used r (r.meter.used + p) = cc in
           record { passed = y; is = i; sound = rw i (used_sound so (r.meter.used + p) (omega arith) (leb-true (r.meter.used + p) e.limit y)) }
       go false y z = absurd (let w : ◌≡◌ {A = ℕ} 0 1 = cc in omega arith)
 
-  pub pays_not : {x : Paid} → x ≡ paid_by r p → x ≡ paid.OutOfMeter → leb (r.meter.used + p) e.limit ≡ false
+  pub pays_not : {x : Option Run} → x ≡ paid_by r p → x ≡ None → leb (r.meter.used + p) e.limit ≡ false
   pays_not h k = go (leb (r.meter.used + p) e.limit) refl (sym k ∙ h ∙ limit_is)
     where
-      go : (t : Bool) → leb (r.meter.used + p) e.limit ≡ t → paid.OutOfMeter ≡ paying t → leb (r.meter.used + p) e.limit ≡ false
+      go : (t : Bool) → leb (r.meter.used + p) e.limit ≡ t → None ≡ paying t → leb (r.meter.used + p) e.limit ≡ false
       go true y z = absurd (let w : ◌≡◌ {A = ℕ} 0 1 = cc in omega arith)
       go false y z = y
 
 -- a price, then the rest of the rule; g: the machine's registers
-module _ {e : Env} {s : List ℕ} {d : ℕ} {f : RegFile} (g : RegFile) {r : Run} {b : Bufs} (so : Sound e s d r b) {p : ℕ} {x : Paid} (h : x ≡ paid_by r p) (rest : Machine → Rule) where
-  pub paid_on : {q : Run} {t : Turn} {a : Bufs} → x ≡ paid.Done q →
+module _ {e : Env} {s : List ℕ} {d : ℕ} {f : RegFile} (g : RegFile) {r : Run} {b : Bufs} (so : Sound e s d r b) {p : ℕ} {x : Option Run} (h : x ≡ paid_by r p) (rest : Machine → Rule) where
+  pub paid_on : {q : Run} {t : Turn} {a : Bufs} → x ≡ Some q →
       (Sound e s d q b → Played e s d f q.meter.used q.fetches (rest (bare (machine_of s q g b))) t a)
       → Played e s d f r.meter.used r.fetches (pay p (rest (bare (machine_of s r g b)))) t a
   unfolding machine_of
   paid_on j on = let w = pays_on so p h j in pay_on w.passed (rw w.is at (on w.sound))
 
-  pub paid_off : {o : Run} {a : Bufs} → x ≡ paid.OutOfMeter →
-      Played e s d f r.meter.used r.fetches (pay p (rest (bare (machine_of s r g b)))) (stops o 1) a
+  pub paid_off : {o : Run} {a : Bufs} → x ≡ None →
+      Played e s d f r.meter.used r.fetches (pay p (rest (bare (machine_of s r g b)))) (stops o OutOfMeter) a
   paid_off j = pay_stops (pays_not so p h j)
 
 -- the run that a payment leaves differs in its meter alone
-pub paid_is : (r : Run) (p : ℕ) (x : Paid) (q : Run) → x ≡ paid_by r p → x ≡ paid.Done q → q ≡ with_used r (r.meter.used + p)
+pub paid_is : (r : Run) (p : ℕ) (x : Option Run) (q : Run) → x ≡ paid_by r p → x ≡ Some q → q ≡ with_used r (r.meter.used + p)
 paid_is r p x q h k = go (leb (r.meter.used + p) r.meter.limit) (sym k ∙ h)
   where
-    go : (t : Bool) → paid.Done q ≡ pick t (paid.Done (with_used r (r.meter.used + p))) paid.OutOfMeter → q ≡ with_used r (r.meter.used + p)
+    go : (t : Bool) → Some q ≡ pick t (Some (with_used r (r.meter.used + p))) None → q ≡ with_used r (r.meter.used + p)
     go true z = cc
     go false z = absurd (let w : ◌≡◌ {A = ℕ} 0 1 = cc in omega arith)

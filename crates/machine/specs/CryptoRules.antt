@@ -1,6 +1,5 @@
 -- Crypto instructions: a price, then the next reply; after a Hash the key at its output may become authorised (document 01, The run).
-use Rattle.std.specs.Prelude.{List, [], ◌∷◌, ℕ, ◌+◌, leb, length, take, drop}
-use Rattle.std.proofs.Math.Option.{Option, some, none}
+use Rattle.std.specs.Prelude.{List, [], ◌∷◌, ℕ, ◌+◌, leb, length, take, drop, Option, Some, None}
 use Rattle.words.specs.Choice.{pick, both}
 use Rattle.words.specs.Bytes.{num}
 use Rattle.meter.specs.Prices.{hash_price, message_price, merkle_price}
@@ -18,7 +17,7 @@ use Rattle.machine.specs.declared.action.Check.TheVariants.{VerifyMl, VerifySlh,
 abbrev pub replied : Reply → Machine → Machine
 replied r m = memory_to (reg_to m r.register r.value) (written_at m.memory r.offset (take r.length r.bytes))
 
--- replies are used in order (47 when none is left); a fault row gives its fault and changes nothing
+-- replies are used in order (47 when None is left); a fault row gives its fault and changes nothing
 abbrev pub asking_of : List Reply → Machine → (Machine → Rule) → Rule
 asking_of [] m then = stop 47 m
 asking_of (r ∷ rs) m then = pass r.outcome (then (replied r (replies_to m rs)))
@@ -35,7 +34,7 @@ check_of e Addr m = asking m next
 
 -- the base of a Hash: the first 8 bytes, if there are 8 and they are in memory
 unfoldable pub base_of : List ℕ → (at n : ℕ) → Option ℕ
-base_of mem at n = pick (both (leb 8 n) (inside (length mem) at 8)) (some (num (take 8 (drop at mem)))) none
+base_of mem at n = pick (both (leb 8 n) (inside (length mem) at 8)) (Some (num (take 8 (drop at mem)))) None
 
 -- 948 unless authorised already, then 32 for each new entry in a total of at most 1048576 (11), then room (48)
 unfoldable pub authorising : Env → (base k : ℕ) → Machine → Rule
@@ -47,8 +46,8 @@ authorising e base k m =
 
 -- if the base is declared keyed, the 32 bytes at the output, if in memory, become authorised
 unfoldable pub tainting : Env → Option ℕ → (out : ℕ) → Machine → Rule
-tainting e none out m = next m
-tainting e (some base) out m =
+tainting e None out m = next m
+tainting e (Some base) out m =
     pick (both (keyed e.keys base) (inside (length m.memory) out 32)) (authorising e base (key_at m out) m) (next m)
 
 -- base and output are taken before the reply

@@ -1,6 +1,5 @@
 -- What a Hash authorises (document 01, The run: Hash).
-use Rattle.std.specs.Prelude.{List, [], ◌∷◌, ℕ, length, take, drop}
-use Rattle.std.proofs.Math.Option.{Option, some, none}
+use Rattle.std.specs.Prelude.{List, [], ◌∷◌, ℕ, length, take, drop, Option, Some, None}
 use Rattle.words.specs.Bytes.{num}
 use Rattle.words.specs.Choice.{pick, both}
 use Rattle.state.specs.Regs.{reg}
@@ -18,13 +17,13 @@ pub record Grant : Type 0 where
 
 -- the 32 bytes at the output, if the base is declared keyed and they are in memory
 unfoldable pub grant_of : known.KeyEnv → Option ℕ → (out : ℕ) → (memory : List ℕ) → Option Grant
-grant_of e none out mem = none
-grant_of e (some base) out mem =
-    pick (both (keyed e base) (inside (length mem) out 32)) (some (record { base = base; key = num (take 32 (drop out mem)) })) none
+grant_of e None out mem = None
+grant_of e (Some base) out mem =
+    pick (both (keyed e base) (inside (length mem) out 32)) (Some (record { base = base; key = num (take 32 (drop out mem)) })) None
 
 -- the base is read before the reply's bytes are written, the key after
 unfoldable pub grant_after : List Reply → known.KeyEnv → Option ℕ → (out : ℕ) → (memory : List ℕ) → Option Grant
-grant_after [] e base out mem = none
+grant_after [] e base out mem = None
 grant_after (r ∷ rs) e base out mem = grant_of e base out (written_at mem r.offset (take r.length r.bytes))
 
 abbrev pub grant_by : Env → (a b c : ℕ) → Machine → Option Grant

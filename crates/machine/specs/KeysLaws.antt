@@ -1,9 +1,8 @@
 -- What a step leaves of the keys, and that these are the keys at its rule's end. Assumes nothing.
-use Rattle.std.specs.Prelude.{◌≡◌, Bool, ℕ, eqb, length}
+use Rattle.std.specs.Prelude.{◌≡◌, Bool, ℕ, eqb, length, Option, Some, None}
 use Rattle.std.proofs.Math.Path.{refl}
 use Rattle.std.proofs.Math.Bool.{true, false}
 use mathlib.Core.List.{List, [], ◌∷◌}
-use Rattle.std.proofs.Math.Option.{Option, some, none}
 use Rattle.words.specs.Choice.{pick, both}
 use Rattle.isa.specs.declared.instr.Instr.{Instr}
 use Rattle.state.specs.Regs.{reg}
@@ -37,8 +36,8 @@ use Rattle.machine.specs.declared.action.Check.TheVariants as check
 -- ---- what is left of the keys
 
 unfoldable pub granted : known.KeyEnv → Keys → Option Grant → Keys
-granted e s none = s
-granted e s (some g) = authorised e s g.base g.key
+granted e s None = s
+granted e s (Some g) = authorised e s g.base g.key
 
 unfoldable pub access_keys : Env → Access → Machine → Keys
 access_keys e (access.SLoad d a) m = loaded e.keys m.keys (key_at m (reg m.regs a))
@@ -104,10 +103,10 @@ module _ (e : Env) (m : Machine) where
   tainted : (base : Option ℕ) (out : ℕ) (p : Machine) → p.keys ≡ m.keys →
       (left_by (tainting e base out p)).keys ≡ granted e.keys m.keys (grant_of e.keys base out p.memory)
   unfolding left_by tainting grant_of granted authorising
-  tainted none out p q = q
-  tainted (some base) out p q = go (both (keyed e.keys base) (inside (length p.memory) out 32))
+  tainted None out p q = q
+  tainted (Some base) out p q = go (both (keyed e.keys base) (inside (length p.memory) out 32))
     where
-      go : (b : Bool) → (left_by (pick b (authorising e base (key_at p out) p) (next p))).keys ≡ granted e.keys m.keys (pick b (some (record { base = base; key = key_at p out })) none)
+      go : (b : Bool) → (left_by (pick b (authorising e base (key_at p out) p) (next p))).keys ≡ granted e.keys m.keys (pick b (Some (record { base = base; key = key_at p out })) None)
       go true = rw q
       go false = q
 

@@ -1,6 +1,5 @@
 -- Send and Emit (document 01, The run): region, prices, the total, durable targets, room in the log.
-use Rattle.std.specs.Prelude.{List, ◌∷◌, ℕ, ◌+◌, ◌*◌, leb, length, take, drop}
-use Rattle.std.proofs.Math.Option.{Option, some, none}
+use Rattle.std.specs.Prelude.{List, ◌∷◌, ℕ, ◌+◌, ◌*◌, leb, length, take, drop, Option, Some, None}
 use Rattle.words.specs.Choice.{pick}
 use Rattle.state.specs.Regs.{reg}
 use Rattle.state.specs.Memory.{inside}
@@ -21,8 +20,8 @@ event selector bytes = record { kind = 1; word = selector * 4294967296; bytes = 
 
 -- a target not sent to before, if any durable target of either kind exists: 227000
 unfoldable pub target_price : Option Target → List Effect → ℕ
-target_price none es = 0
-target_price (some t) es = pick (known_in t es) 0 (pick (any_target es) 227000 0)
+target_price None es = 0
+target_price (Some t) es = pick (known_in t es) 0 (pick (any_target es) 227000 0)
 
 -- 6250 from the fifth event
 unfoldable pub event_price : List Effect → ℕ

@@ -1,14 +1,13 @@
 -- The finished steps of a run, in order (document 01, What every promise has to say: stated over the step rules).
-use Rattle.std.specs.Prelude.{List, [], ◌∷◌, ℕ, zero, suc, ◌+◌}
+use Rattle.std.specs.Prelude.{List, [], ◌∷◌, ℕ, zero, suc, ◌+◌, Result, Ok, Err}
 use Rattle.isa.specs.Table.{price_of}
 use Rattle.isa.specs.Forms.{form_of}
 use Rattle.isa.specs.Codec.{decode_at}
 use Rattle.isa.specs.declared.instr.Instr.{Instr}
-use Rattle.isa.specs.declared.codec.Decoded.{Decoded}
-use Rattle.isa.specs.declared.codec.Decoded.TheVariants as decoded
 use Rattle.machine.specs.Machine.{Env, Machine, pc_to, used_to, fetches_to}
 use Rattle.machine.specs.Steps.{Step, next, halt, fault}
 use Rattle.machine.specs.Turns.{turn_of}
+use Rattle.isa.specs.declared.codec.DecodeError.{DecodeError}
 
 -- a finished step: its instruction, and the machine that it steps from
 pub record Took : Type 0 where
@@ -23,11 +22,11 @@ abbrev pub took : Machine → Instr → (n : ℕ) → Took
 took m i n = record { instr = i; on = fetched_from m i n }
 
 -- a turn's step, if it finishes, and those that follow
-unfoldable pub steps_from : Decoded → Machine → Step → (Machine → List Took) → List Took
-steps_from (decoded.Refused x) m s on = []
-steps_from (decoded.Done i n) m (next p) on = took m i n ∷ on p
-steps_from (decoded.Done i n) m (halt p) on = took m i n ∷ []
-steps_from (decoded.Done i n) m (fault x) on = []
+unfoldable pub steps_from : Result (Instr × ℕ) DecodeError → Machine → Step → (Machine → List Took) → List Took
+steps_from (Err x) m s on = []
+steps_from (Ok (i, n)) m (next p) on = took m i n ∷ on p
+steps_from (Ok (i, n)) m (halt p) on = took m i n ∷ []
+steps_from (Ok (i, n)) m (fault x) on = []
 
 -- the finished steps of a run of at most so many turns
 unfoldable pub steps_of : (turns : ℕ) → Env → Machine → List Took

@@ -1,5 +1,5 @@
 -- A turn fetches, prices and steps; a run goes from turn to turn (document 01, The run: Fetch).
-use Rattle.std.specs.Prelude.{ℕ, zero, suc, ◌+◌, ltb}
+use Rattle.std.specs.Prelude.{ℕ, zero, suc, ◌+◌, ltb, Result, Ok, Err}
 use Rattle.isa.specs.Table.{price_of}
 use Rattle.isa.specs.Forms.{form_of}
 use Rattle.isa.specs.Codec.{decode_at}
@@ -7,8 +7,7 @@ use Rattle.isa.specs.Answers.{decode_error}
 use Rattle.words.specs.Refusals.{refusal}
 use Rattle.words.specs.declared.refusal.Refusal.{Refusal}
 use Rattle.isa.specs.declared.instr.Instr.{Instr}
-use Rattle.isa.specs.declared.codec.Decoded.{Decoded}
-use Rattle.isa.specs.declared.codec.Decoded.TheVariants.{Done, Refused}
+use Rattle.state.specs.Faults.{fault_number}
 use Rattle.state.specs.Regs as regs
 use Rattle.state.specs.declared.regs.Stepped.{Stepped}
 use Rattle.machine.specs.Machine.{Env, Machine, regs_to, pc_to, fetches_to, bare}
@@ -23,10 +22,11 @@ use Rattle.machine.specs.PostRules.{post_of}
 use Rattle.machine.specs.CryptoRules.{hash_of, check_of}
 use Rattle.machine.specs.declared.action.Action.{Action}
 use Rattle.machine.specs.declared.action.Action.TheVariants as action
+use Rattle.isa.specs.declared.codec.DecodeError.{DecodeError}
 
 -- a register operation, or its fault
 abbrev pub operated : Stepped → Machine → Rule
-operated s m = pass s.fault (next (regs_to m s.file))
+operated s m = pass (fault_number s.fault) (next (regs_to m s.file))
 
 unfoldable pub act_of : Env → Instr → Action → Machine → Rule
 act_of e i action.Halt m = halt m
@@ -47,9 +47,9 @@ unfoldable pub step_of : Env → Instr → Machine → Step
 step_of e i m = plays e m (rule_of e i m)
 
 -- the base price, then the next address below 2^32 (7), then the instruction
-unfoldable pub fetch_of : Env → Decoded → Machine → Step
-fetch_of e (Refused x) m = step.fault (decode_error x)
-fetch_of e (Done i n) m =
+unfoldable pub fetch_of : Env → Result (Instr × ℕ) DecodeError → Machine → Step
+fetch_of e (Err x) m = step.fault (decode_error x)
+fetch_of e (Ok (i, n)) m =
     plays e m
     (pay (price_of (form_of i).op)
     (need (ltb (m.pc + n) 4294967296) 7

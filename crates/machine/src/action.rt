@@ -57,6 +57,7 @@ pub enum Action {
     Checks(Check),
 }
 
+#[tactic(auto, unfolding(crate::specs::Actions::action_of))]
 pub fn action_of(i: Instr) -> Action
     ensures { result ≡ action_of i }
 {

@@ -3,7 +3,7 @@ ghost use Rattle.std.specs.Prelude.{◌≡◌};
 ghost use Rattle.machine.specs.Does.{paid_by};
 
 use keys::counts::Counts;
-use meter::{Charged, Meter};
+use meter::Meter;
 
 #[derive(Clone, Copy)]
 pub struct Run {
@@ -20,12 +20,6 @@ pub struct Run {
     pub replies: usize,
     pub meter: Meter,
     pub fetches: u64,
-}
-
-#[derive(Clone, Copy)]
-pub enum Paid {
-    Done(Run),
-    OutOfMeter,
 }
 
 impl Run {
@@ -59,17 +53,11 @@ impl Run {
     }
 
     // The run with a price paid, where the limit allows it.
-    pub fn pay(self, price: u64) -> Paid
+    #[tactic(auto, using(crate::specs::ToldLaws::paid_done, crate::specs::ToldLaws::paid_out))]
+    pub fn pay(self, price: u64) -> Option<Run>
         ensures { result ≡ paid_by self price }
     {
-        let m = self.meter.charge(price);
-        match m {
-            Charged::Paid(n) => {
-                let mut run = self;
-                run.meter = n;
-                Paid::Done(run)
-            }
-            Charged::OutOfMeter => Paid::OutOfMeter,
-        }
+        let meter = self.meter.charge(price)?;
+        Some(Run { meter, ..self })
     }
 }

@@ -3,6 +3,7 @@ ghost use Rattle.std.specs.Prelude.{◌≡◌};
 ghost use Rattle.machine.specs.Does.{goes, sets, stops, halts};
 
 use crate::run::Run;
+use state::fault::Fault;
 
 // Two words for two registers, the first put first; a register past the last is none.
 #[derive(Clone, Copy)]
@@ -13,12 +14,12 @@ pub struct Put {
     pub w: u64,
 }
 
-// The run after a turn and what goes into its registers; its fault, or 0; whether it halts.
+// The run after a turn and what goes into its registers; its fault, if it has one; whether it halts.
 #[derive(Clone, Copy)]
 pub struct Turn {
     pub run: Run,
     pub put: Put,
-    pub fault: u64,
+    pub fault: Option<Fault>,
     pub halted: bool,
 }
 
@@ -29,7 +30,7 @@ pub fn set(run: Run, d: u8, v: u64) -> Turn
     Turn {
         run: run.by_fields(),
         put: Put { d, v, e: 255, w: 0 },
-        fault: 0,
+        fault: None,
         halted: false,
     }
 }
@@ -42,11 +43,11 @@ pub fn go_on(run: Run) -> Turn
 }
 
 // Stops with a fault.
-pub fn stop(run: Run, fault: u64) -> Turn
+pub fn stop(run: Run, fault: Fault) -> Turn
     ensures { result ≡ stops run fault }
 {
     let mut t = go_on(run);
-    t.fault = fault;
+    t.fault = Some(fault);
     t
 }
 

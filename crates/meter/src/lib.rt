@@ -19,23 +19,10 @@ pub const MERKLE_LEVEL: u64 = 50;
 
 pub const MERKLE_HEADER: u64 = 72;
 
-#[derive(Clone, Copy)]
+#[derive(Clone, Copy, Debug, PartialEq, Eq)]
 pub struct Meter {
     pub used: u64,
     pub limit: u64,
-}
-
-#[derive(Clone, Copy)]
-pub enum Charged {
-    Paid(Meter),
-    OutOfMeter,
-}
-
-// a - b, or 0.
-fn less(a: u64, b: u64) -> u64
-    ensures { result ≡ a - b }
-{
-    if b <= a { a - b } else { 0 }
 }
 
 // a * b + c, or the largest word.
@@ -65,13 +52,13 @@ pub fn hash_variable(len: u64) -> u64
 pub fn message_variable(b: u64, signed: u64) -> u64
     ensures { result ≡ message_price b signed }
 {
-    VERIFY_MESSAGE_BLOCK * keccak_blocks(less(b, signed))
+    VERIFY_MESSAGE_BLOCK * keccak_blocks(b.saturating_sub(signed))
 }
 
 pub fn merkle_variable(b: u64) -> u64
     ensures { result ≡ min (merkle_price b) (2 ^ 64 - 1) }
 {
-    capped(MERKLE_LEVEL, less(b, MERKLE_HEADER) / 32, 0)
+    capped(MERKLE_LEVEL, b.saturating_sub(MERKLE_HEADER) / 32, 0)
 }
 
 // What opening costs, by the bytes of the code.
@@ -83,16 +70,16 @@ pub fn dispatch(code_bytes: u64) -> u64
 
 impl Meter {
     // Pays a price where the limit allows it; no sum is made before that is known.
-    pub fn charge(self, price: u64) -> Charged
+    pub fn charge(self, price: u64) -> Option<Meter>
         ensures { result ≡ charge_of self price }
     {
         if self.limit < self.used {
-            return Charged::OutOfMeter;
+            return None;
         }
         if self.limit - self.used < price {
-            return Charged::OutOfMeter;
+            return None;
         }
-        Charged::Paid(Meter {
+        Some(Meter {
             used: self.used + price,
             limit: self.limit,
         })

@@ -2,6 +2,7 @@
 pub mod Opening
 -- what the code claims
 pub mod Opened
+pub mod NotOne
 pub mod Parts
 -- laws
 pub mod TableLaws

@@ -1,18 +1,18 @@
 -- What the code's opening tells of document 01's.
-use Rattle.std.specs.Prelude.{◌≡◌, Bool, true, false, List, ℕ, ◌+◌, ◌*◌, ◌≤◌, ◌<◌, length, take, drop}
+use Rattle.std.specs.Prelude.{◌≡◌, Bool, true, false, List, ℕ, ◌+◌, ◌*◌, ◌≤◌, ◌<◌, length, take, drop, Some, Result, Ok, Err}
 use Rattle.words.specs.Bytes.{words_of}
 use Rattle.meter.specs.Prices.{dispatch_price}
 use Rattle.tables.specs.Checked.{checked_of}
-use Rattle.tables.specs.declared.check.Checked.TheVariants.{Whole}
 use Rattle.container.specs.Container.{Entry, Container}
 use Rattle.container.specs.Reader.{read_of}
 use Rattle.container.specs.declared.entries.Slots.{Slots}
 use Rattle.opening.specs.Opening.{Input, Lent, start, refuse, env_of, machine_for, opening_read}
+use Rattle.state.specs.Faults.{fault_refusal}
+use Rattle.state.specs.declared.fault.Fault.{Fault}
 use Rattle.machine.specs.declared.host.Host.{Host}
 use Rattle.opening.specs.declared.open.Call.{Call}
 use Rattle.opening.specs.declared.open.Opened.{Opened}
-use Rattle.opening.specs.declared.open.OpenAnswer.{OpenAnswer}
-use Rattle.opening.specs.declared.open.OpenAnswer.TheVariants.{Done, Refused}
+use Rattle.words.specs.declared.refusal.Refusal.{Refusal}
 
 -- an entry's call, by a selector, and the call of the genesis entry
 abbrev pub entry_call : (selector limit : ℕ) → Host → (has_loader : Bool) → Call
@@ -59,16 +59,21 @@ pub record OpenedFrom (x : Input) (b : Lent) (o : Opened) : Type 0 where
   pub keyed_writes : Listed x.container o.entry.keyed_writes entry.keyed_writes
   pub offset : o.entry.offset ≡ entry.offset
   pub offset_small : entry.offset < 4294967296
-  pub store : checked_of 40 x.store ≡ Whole o.lent.store
+  pub store : checked_of 40 x.store ≡ Some o.lent.store
   pub has_loader : o.lent.has_loader ≡ x.has_loader
-  pub loader : x.has_loader ≡ true → checked_of 40 x.loader ≡ Whole o.lent.loader
+  pub loader : x.has_loader ≡ true → checked_of 40 x.loader ≡ Some o.lent.loader
   pub used : o.used ≡ dispatch_price (length container.code)
   pub afford : dispatch_price (length container.code) ≤ x.limit
 
-abbrev pub ToldOf : Input → Lent → OpenAnswer → Type 0
-ToldOf x b (Done o) = OpenedFrom x b o
-ToldOf x b (Refused n) = opening_read x b (read_of x.container) ≡ refuse n
+abbrev pub ToldOf : Input → Lent → Result Opened Refusal → Type 0
+ToldOf x b (Ok o) = OpenedFrom x b o
+ToldOf x b (Err n) = opening_read x b (read_of x.container) ≡ refuse n
+
+-- a fault as document 01 numbers it
+abbrev pub numbered : Result Opened Fault → Result Opened Refusal
+numbered (Ok o) = Ok o
+numbered (Err n) = Err (fault_refusal n)
 
 -- whatever is lent, and whatever the preload is
-abbrev pub Opens : Call → (container store loader replies : List ℕ) → OpenAnswer → Type 0
+abbrev pub Opens : Call → (container store loader replies : List ℕ) → Result Opened Refusal → Type 0
 Opens c s st ld rp r = (pre : List ℕ) (b : Lent) → ToldOf (input_of c s st ld rp pre) b r

@@ -1,8 +1,7 @@
 -- What the parts of the code's opening tell.
-use Rattle.std.specs.Prelude.{◌≡◌, true, false, List, [], ◌∷◌, ℕ, ◌≤◌, eqb}
+use Rattle.std.specs.Prelude.{◌≡◌, true, false, List, [], ◌∷◌, ℕ, ◌≤◌, eqb, Some, Result, Ok, Err}
 use Rattle.words.specs.Bytes.{Bytes}
 use Rattle.tables.specs.Checked.{checked_of}
-use Rattle.tables.specs.declared.check.Checked.TheVariants.{Whole}
 use Rattle.container.specs.Container.{Entry}
 use Rattle.container.specs.Reader.{read_of}
 use Rattle.container.specs.EntryToldLaws.{EntryFound}
@@ -11,28 +10,35 @@ use Rattle.container.specs.declared.reader.Layout.{Layout}
 use Rattle.container.specs.declared.entries.EntryLayout.{EntryLayout}
 use Rattle.keys.specs.declared.look.TableRows.{TableRows}
 use Rattle.opening.specs.Opening.{Input, Lent, tables_number, matching, opening_read, opening_in, opening_one, opening_at}
-use Rattle.opening.specs.Opened.{input_of, ToldOf}
+use Rattle.opening.specs.Opened.{input_of, ToldOf, numbered}
 use Rattle.opening.specs.declared.open.Call.{Call}
-use Rattle.opening.specs.declared.open.OpenAnswer.{OpenAnswer}
-use Rattle.opening.specs.declared.lent.Tables.{Tables}
-use Rattle.opening.specs.declared.lent.Tables.TheVariants.{Good, Bad}
-use Rattle.opening.specs.declared.unique_entry.Sought.{Sought}
-use Rattle.opening.specs.declared.unique_entry.Sought.TheVariants.{At, Missing, Twice}
+use Rattle.opening.specs.declared.open.Opened.{Opened}
+use Rattle.words.specs.Refusals.{refusal}
+use Rattle.state.specs.Faults.{fault_refusal}
+use Rattle.state.specs.declared.fault.Fault.{Fault}
+use Rattle.opening.specs.declared.unique_entry.NotOne.{NotOne}
 
 -- ---- tables
 
 -- none is refused, and these are the rows of store and loader
 pub record Tabled (x : Input) (n : TableRows) : Type 0 where
   pub number : tables_number x ≡ 0
-  pub store : checked_of 40 x.store ≡ Whole n.store
+  pub store : checked_of 40 x.store ≡ Some n.store
   pub has_loader : n.has_loader ≡ x.has_loader
-  pub loader : x.has_loader ≡ true → checked_of 40 x.loader ≡ Whole n.loader
+  pub loader : x.has_loader ≡ true → checked_of 40 x.loader ≡ Some n.loader
 
-abbrev pub TablesTold : Input → Tables → Type 0
-TablesTold x (Good n) = Tabled x n
-TablesTold x (Bad n) = (tables_number x ≡ n) × (eqb n 0 ≡ false)
+-- or one is refused, with this fault
+pub record Untabled (x : Input) (n : Fault) : Type 0 where
+  pub number : ℕ
+  pub is : tables_number x ≡ number
+  pub some : eqb number 0 ≡ false
+  pub tells : fault_refusal n ≡ refusal number 0
 
-abbrev pub Checks : Call → (store loader replies : List ℕ) → Tables → Type 0
+abbrev pub TablesTold : Input → Result TableRows Fault → Type 0
+TablesTold x (Ok n) = Tabled x n
+TablesTold x (Err n) = Untabled x n
+
+abbrev pub Checks : Call → (store loader replies : List ℕ) → Result TableRows Fault → Type 0
 Checks c st ld rp r = (s pre : List ℕ) → TablesTold (input_of c s st ld rp pre) r
 
 -- ---- the entry with a selector
@@ -50,10 +56,10 @@ pub record Two (selector : ℕ) (es : List Entry) : Type 0 where
   pub rest : List Entry
   pub is : matching selector es ≡ one ∷ other ∷ rest
 
-abbrev pub SoughtTold : List ℕ → ℕ → List Entry → Sought → Type 0
-SoughtTold s selector es (At e) = One s selector es e
-SoughtTold s selector es Missing = matching selector es ≡ []
-SoughtTold s selector es Twice = Two selector es
+abbrev pub SoughtTold : List ℕ → ℕ → List Entry → Result EntryLayout NotOne → Type 0
+SoughtTold s selector es (Ok e) = One s selector es e
+SoughtTold s selector es (Err NotOne.Missing) = matching selector es ≡ []
+SoughtTold s selector es (Err NotOne.Twice) = Two selector es
 
 -- ---- a call whose container was read and whose tables were checked
 
@@ -64,18 +70,18 @@ pub record Entering (x : Input) (b : Lent) (l : Layout) (n : TableRows) (part : 
   pub tables : Tabled x n
   pub is : opening_read x b (read_of x.container) ≡ opening_in x b read.found
 
-abbrev pub OpensIn : Call → Layout → TableRows → (container code : List ℕ) → OpenAnswer → Type 0
+abbrev pub OpensIn : Call → Layout → TableRows → (container code : List ℕ) → Result Opened Fault → Type 0
 OpensIn c l n s code r =
-    (st ld rp pre : List ℕ) (b : Lent) → Entering (input_of c s st ld rp pre) b l n code → ToldOf (input_of c s st ld rp pre) b r
+    (st ld rp pre : List ℕ) (b : Lent) → Entering (input_of c s st ld rp pre) b l n code → ToldOf (input_of c s st ld rp pre) b (numbered r)
 
 -- and whose entries were searched for the selector
-pub record Choosing (x : Input) (b : Lent) (l : Layout) (n : TableRows) (part : List ℕ) (o : Sought) : Type 0 where
+pub record Choosing (x : Input) (b : Lent) (l : Layout) (n : TableRows) (part : List ℕ) (o : Result EntryLayout NotOne) : Type 0 where
   pub entering : Entering x b l n part
   pub small : l.code ≤ 65536
   pub is : opening_read x b (read_of x.container) ≡ opening_one x b entering.read.found (matching x.selector entering.read.found.entries)
   pub told : SoughtTold x.container x.selector entering.read.found.entries o
 
-abbrev pub Searched : Call → Layout → TableRows → (container code : List ℕ) → Sought → Type 0
+abbrev pub Searched : Call → Layout → TableRows → (container code : List ℕ) → Result EntryLayout NotOne → Type 0
 Searched c l n s code o =
     (st ld rp pre : List ℕ) (b : Lent) → Entering (input_of c s st ld rp pre) b l n code → Choosing (input_of c s st ld rp pre) b l n code o
 
@@ -87,6 +93,6 @@ pub record Beginning (x : Input) (b : Lent) (l : Layout) (n : TableRows) (e : En
   pub entry : EntryFound x.container at e
   pub is : opening_read x b (read_of x.container) ≡ opening_at x b entering.read.found entry.found
 
-abbrev pub OpensAt : Call → Layout → TableRows → EntryLayout → (code : List ℕ) → OpenAnswer → Type 0
+abbrev pub OpensAt : Call → Layout → TableRows → EntryLayout → (code : List ℕ) → Result Opened Fault → Type 0
 OpensAt c l n e code r =
-    (s st ld rp pre : List ℕ) (b : Lent) → Beginning (input_of c s st ld rp pre) b l n e code → ToldOf (input_of c s st ld rp pre) b r
+    (s st ld rp pre : List ℕ) (b : Lent) → Beginning (input_of c s st ld rp pre) b l n e code → ToldOf (input_of c s st ld rp pre) b (numbered r)

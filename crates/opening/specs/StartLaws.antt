@@ -1,5 +1,5 @@
 -- A turn of the reading of the code up to a place. Assumes nothing.
-use Rattle.std.specs.Prelude.{◌≡◌, refl, true, false, ℕ, ◌+◌, ◌-◌, ◌≤◌, ◌<◌, length}
+use Rattle.std.specs.Prelude.{◌≡◌, refl, true, false, ℕ, ◌+◌, ◌-◌, ◌≤◌, ◌<◌, length, Ok, Err}
 use Rattle.std.proofs.Math.Path.{sym}
 use Rattle.std.proofs.Common.{ap, ◌∙◌, eq-eqb, ne_eqb}
 use mathlib.Core.List.{List, [], ◌∷◌}
@@ -8,7 +8,6 @@ use Rattle.words.specs.Lists.{member}
 use Rattle.isa.specs.Codec.{decode_at}
 use Rattle.isa.specs.declared.instr.Instr.{Instr}
 use Rattle.isa.specs.declared.codec.DecodeError.{DecodeError}
-use Rattle.isa.specs.declared.codec.Decoded.TheVariants.{Done, Refused}
 use Rattle.starts.specs.Starts.{starts_by, starts_from, starts_of}
 use Rattle.starts.specs.SweepLaws.{Sweep, at_end, on}
 
@@ -45,11 +44,11 @@ module _ (code : List ℕ) (offset place : ℕ) (i : StartsLeft code offset plac
     by_decode : left code place ≡ starts_by (decode_at code place) place (λ q. left code q)
     by_decode = on code [] _ _ (sweep code) place h
 
-    pub read_refused : (e : DecodeError) → decode_at code place ≡ Refused e → false ≡ member offset (starts_of code)
+    pub read_refused : (e : DecodeError) → decode_at code place ≡ Err e → false ≡ member offset (starts_of code)
     unfolding starts_by member
     read_refused e d = sym (leaves [] (by_decode ∙ rw d))
 
-    module _ (x : Instr) (n : ℕ) (d : decode_at code place ≡ Done x n) where
+    module _ (x : Instr) (n : ℕ) (d : decode_at code place ≡ Ok (x, n)) where
       goes : left code place ≡ place ∷ left code (place + n)
       unfolding starts_by
       goes = by_decode ∙ rw d

@@ -1,5 +1,5 @@
 -- A turn of the search for the one entry with a selector, and what its answer says. Assumes nothing.
-use Rattle.std.specs.Prelude.{◌≡◌, refl, Bool, true, false, ℕ, ◌-◌, ◌≤◌, ◌<◌, eqb, drop}
+use Rattle.std.specs.Prelude.{◌≡◌, refl, Bool, true, false, ℕ, ◌-◌, ◌≤◌, ◌<◌, eqb, drop, Option, Some, None, Result, Ok, Err}
 use Rattle.std.proofs.Math.Path.{sym, ap}
 use Rattle.std.proofs.Common.{subst, ◌∙◌, arith, eq-eqb, ne_eqb}
 use mathlib.Core.List.{List, [], ◌∷◌}
@@ -10,22 +10,19 @@ use Rattle.container.specs.Entries.{placed, found_in}
 use Rattle.container.specs.EntryToldLaws.{EntryFound}
 use Rattle.container.specs.EntriesLaws.{entries_more, no_more, entries_cons}
 use Rattle.container.specs.declared.entries.EntryLayout.{EntryLayout}
-use Rattle.container.specs.declared.offsets.FirstMatch.{FirstMatch}
-use Rattle.container.specs.declared.offsets.FirstMatch.TheVariants as found
 use Rattle.opening.specs.Opening.{matching}
 use Rattle.opening.specs.Parts.{SoughtTold}
-use Rattle.opening.specs.declared.unique_entry.Sought.{Sought}
-use Rattle.opening.specs.declared.unique_entry.Sought.TheVariants.{At, Missing, Twice}
+use Rattle.opening.specs.declared.unique_entry.NotOne.{NotOne}
 
 -- what a search for the first entry with a selector tells of those that have it
-pub record Some (es : List Entry) : Type 0 where
+pub record OneOrMore (es : List Entry) : Type 0 where
   pub first : Entry
   pub rest : List Entry
   pub is : es ≡ first ∷ rest
 
-abbrev pub FoundTold : FirstMatch → List Entry → Type 0
-FoundTold (found.At l) es = Some es
-FoundTold found.Missing es = es ≡ []
+abbrev pub FoundTold : Option EntryLayout → List Entry → Type 0
+FoundTold (Some l) es = OneOrMore es
+FoundTold None es = es ≡ []
 
 found_matching : (selector at : ℕ) (es : List Entry) → FoundTold (found_in selector at es) (matching selector es)
 unfolding found_in matching
@@ -33,20 +30,20 @@ found_matching selector at [] = refl
 found_matching selector at (e ∷ es) = by (eqb e.selector selector) (found_matching selector (placed at e).end es)
   where
     by : (t : Bool) → FoundTold (found_in selector (placed at e).end es) (matching selector es) →
-        FoundTold (pick t (found.At (placed at e)) (found_in selector (placed at e).end es)) (pick t (e ∷ matching selector es) (matching selector es))
+        FoundTold (pick t (Some (placed at e)) (found_in selector (placed at e).end es)) (pick t (e ∷ matching selector es) (matching selector es))
     by true h = record { first = e; rest = matching selector es; is = refl }
     by false h = h
 
 -- an entry is the first with a selector, and what a search behind it found
-pub record Behind (selector : ℕ) (es : List Entry) (e : Entry) (r : FirstMatch) : Type 0 where
+pub record Behind (selector : ℕ) (es : List Entry) (e : Entry) (r : Option EntryLayout) : Type 0 where
   pub tail : List Entry
   pub is : matching selector es ≡ e ∷ matching selector tail
   pub told : FoundTold r (matching selector tail)
 
 -- another one behind it makes two
-abbrev pub sought_by : EntryLayout → FirstMatch → Sought
-sought_by l (found.At m) = Twice
-sought_by l found.Missing = At l
+abbrev pub sought_by : EntryLayout → Option EntryLayout → Result EntryLayout NotOne
+sought_by l (Some m) = Err NotOne.Twice
+sought_by l None = Ok l
 
 -- some entries are left, and all that have the selector are among them
 pub record MatchesLeft (s : List ℕ) (selector : ℕ) (es : List Entry) (t : List ℕ) (at more : ℕ) : Type 0 where
@@ -68,7 +65,7 @@ module _ {s : List ℕ} {selector first n at more : ℕ} (i : Seeking s selector
       let z : ◌≡◌ {A = ℕ} 0 1 = cc in
       omega arith
 
-  pub none_left : more ≤ 0 → (es : List Entry) (t : List ℕ) → entries n (drop first s) ≡ read es t → SoughtTold s selector es Missing
+  pub none_left : more ≤ 0 → (es : List Entry) (t : List ℕ) → entries n (drop first s) ≡ read es t → SoughtTold s selector es (Err NotOne.Missing)
   unfolding matching
   none_left h es t k =
       let x = i.left es t k in
@@ -79,7 +76,7 @@ module _ {s : List ℕ} {selector first n at more : ℕ} (i : Seeking s selector
 
   module _ (h : 0 < more) (l : EntryLayout) (f : EntryFound s at l) where
     -- the entry has the selector, and those behind it are searched
-    module _ (q : l.selector ≡ selector) (r : FirstMatch)
+    module _ (q : l.selector ≡ selector) (r : Option EntryLayout)
         (behind : (es : List Entry) (t : List ℕ) → entries (more - 1) (drop l.end s) ≡ read es t → r ≡ found_in selector l.end es)
         (es : List Entry) (t : List ℕ) (k : entries n (drop first s) ≡ read es t) where
       here : Behind selector es f.found r
@@ -94,17 +91,17 @@ module _ {s : List ℕ} {selector first n at more : ℕ} (i : Seeking s selector
             told = rw (behind y.tail t y.others) (found_matching selector l.end y.tail);
           }
 
-      pub matched : (o : FirstMatch) → r ≡ o → SoughtTold s selector es (sought_by l o)
-      matched o e = by o (subst (λ (o : FirstMatch). Behind selector es f.found o) e here)
+      pub matched : (o : Option EntryLayout) → r ≡ o → SoughtTold s selector es (sought_by l o)
+      matched o e = by o (subst (λ (o : Option EntryLayout). Behind selector es f.found o) e here)
         where
-          by : (o : FirstMatch) → Behind selector es f.found o → SoughtTold s selector es (sought_by l o)
-          by (found.At m) b = record {
+          by : (o : Option EntryLayout) → Behind selector es f.found o → SoughtTold s selector es (sought_by l o)
+          by (Some m) b = record {
             one = f.found;
             other = b.told.first;
             rest = b.told.rest;
             is = b.is ∙ ap (λ (m : List Entry). f.found ∷ m) b.told.is;
           }
-          by found.Missing b = record { at = at; entry = f; is = b.is ∙ ap (λ (m : List Entry). f.found ∷ m) b.told }
+          by None b = record { at = at; entry = f; is = b.is ∙ ap (λ (m : List Entry). f.found ∷ m) b.told }
 
     pub seek_on : (l.selector ≡ selector → ⊥) → Seeking s selector first n l.end (more - 1)
     unfolding matching placed

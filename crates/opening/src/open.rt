@@ -2,9 +2,8 @@
 ghost use Rattle.std.specs.Prelude.{◌≡◌};
 ghost use Rattle.opening.specs.Opened.{entry_call, genesis_call, Opens};
 
-use super::lent::Tables;
 use container::entries::EntryLayout;
-use container::reader::{Layout, Reading};
+use container::reader::Layout;
 use keys::look::TableRows;
 use machine::host::Host;
 use words::refusal::Refusal;
@@ -56,35 +55,17 @@ pub struct Opened {
     pub used: u64,
 }
 
-#[derive(Clone, Copy)]
-pub enum OpenAnswer {
-    Done(Opened),
-    Refused(Refusal),
-}
-
-pub fn open(call: Call, container: &[u8], store: &[u8], loader: &[u8], replies: &[u8]) -> OpenAnswer
+pub fn open(
+    call: Call,
+    container: &[u8],
+    store: &[u8],
+    loader: &[u8],
+    replies: &[u8],
+) -> Result<Opened, Refusal>
     ensures { Opens call container.now store.now loader.now replies.now result }
 {
-    let d = container::reader::read(container);
-    match d {
-        Reading::Refused(e) => OpenAnswer::Refused(e.refusal()),
-        Reading::Done(l) => {
-            let at = l.code_at;
-            let end = at + l.code;
-            let t = super::lent::check(call, store, loader, replies);
-            match t {
-                Tables::Bad(n) => OpenAnswer::Refused(Refusal {
-                    number: n,
-                    argument: 0,
-                }),
-                Tables::Good(lent) => super::entry::enter(
-                    call,
-                    l,
-                    lent,
-                    container,
-                    &container[at..end],
-                ),
-            }
-        }
-    }
+    let l = container::reader::read(container)?;
+    let lent = super::lent::check(call, store, loader, replies)?;
+    let code = &container[l.code_at..l.code_at + l.code];
+    Ok(super::entry::enter(call, l, lent, container, code)?)
 }

@@ -1,5 +1,5 @@
 -- What a crypto instruction is given of tables, and a turn with what a reply puts.
-use Rattle.std.specs.Prelude.{false, List, ℕ}
+use Rattle.std.specs.Prelude.{false, List, ℕ, None}
 use Rattle.keys.specs.Sound.{Good}
 use Rattle.keys.specs.Lent as tables
 use Rattle.keys.specs.declared.counts.Counts.{Counts}
@@ -13,4 +13,4 @@ GoodLists c readable writable = (changes : List ℕ) × (fetched : List ℕ) × 
 
 -- a turn that goes on with what is put
 abbrev pub goes_with : Run → Put → Turn
-goes_with r p = record { run = r; put = p; fault = 0; halted = false }
+goes_with r p = record { run = r; put = p; fault = None; halted = false }

@@ -1,5 +1,5 @@
 -- Each way out of asking for a reply is what the rule comes to, and what follows a reply. Assumes nothing.
-use Rattle.std.specs.Prelude.{◌≡◌, refl, Bool, true, false, leb, drop}
+use Rattle.std.specs.Prelude.{◌≡◌, refl, Bool, true, false, leb, drop, Option, Some, None, is_some, ℕ}
 use Rattle.std.proofs.Common.{sym, ap, ◌∙◌, subst, take_all, leb-true, leb-false}
 use mathlib.Core.List.{List, [], ◌∷◌}
 use Prim.Native.Nat.{ℕ, zero, suc, ◌+◌, ◌-◌, ◌*◌, ◌/◌, ◌≤◌, ◌<◌, min}
@@ -12,17 +12,20 @@ use Rattle.replies.specs.declared.reply.Reply.{Reply}
 use Rattle.state.specs.Memory.{written_at}
 use Rattle.state.specs.declared.regs.RegFile.{RegFile}
 use Rattle.keys.specs.Lent as tables
+use Rattle.words.specs.declared.refusal.Refusal.{Refusal}
+use Rattle.state.specs.declared.fault.Fault.{Fault}
 use Rattle.machine.specs.Machine.{Env, Machine, replies_to, bare}
 use Rattle.machine.specs.Rules.{Rule, next, pass, play}
 use Rattle.machine.specs.CryptoRules.{replied, asking_of, asking}
 use Rattle.machine.specs.Lent.{Bufs, bufs, replies_in, replies_left}
 use Rattle.machine.specs.Sound.{machine_of, Sound}
-use Rattle.machine.specs.Does.{sets, stops, puts, Played, Does}
+use Rattle.machine.specs.Does.{sets, stops, puts, Tells, Played, Does}
 use Rattle.machine.specs.RunParts.{with_replies}
 use Rattle.machine.specs.SoundLaws.{memory_sound, replies_sound}
 use Rattle.machine.proofs.TurnLaws.{pass_on, pass_stops, sets_next}
 use Rattle.machine.specs.declared.run.Run.{Run}
 use Rattle.machine.specs.declared.turn.Turn.{Turn}
+use Rattle.state.specs.declared.fault.Fault.TheVariants.{NoReply, Told}
 
 -- a length above all of the bytes takes all of them
 taken : (n : ℕ) (bytes : List ℕ) → length bytes ≡ 32 → take (min n 32) bytes ≡ take n bytes
@@ -68,14 +71,14 @@ module _ (e : Env) (s : List ℕ) (d : ℕ) (f : RegFile) (r : Run) (mem st : Li
   -- ---- the three ways out
 
   module _ (a : Bufs) (t : Turn) where
-    pub ask_none : t ≡ stops r 47 → length s < r.replies * 48 + 48 → Does e s d (λ m. asking m next) r f (bufs mem st ks log) a t
+    pub ask_none : t ≡ stops r NoReply → length s < r.replies * 48 + 48 → Does e s d (λ m. asking m next) r f (bufs mem st ks log) a t
     unfolding machine_of
-    ask_none w h = λ sixteen so. rw (none_left s r.replies h, w) (pass_stops 47 (λ z. omega arith))
+    ask_none w h = λ sixteen so. rw (none_left s r.replies h, w) (pass_stops NoReply 47 refl (λ z. omega arith))
 
     module _ (x : Reply) (q : x ≡ reply_of (take 48 (drop (r.replies * 48) s))) (h : r.replies * 48 + 48 ≤ length s) where
-      pub ask_fault : t ≡ stops r x.outcome → (x.outcome ≡ 0 → ⊥) → Does e s d (λ m. asking m next) r f (bufs mem st ks log) a t
+      pub ask_fault : t ≡ stops r (Told x.outcome) → (x.outcome ≡ 0 → ⊥) → Does e s d (λ m. asking m next) r f (bufs mem st ks log) a t
       unfolding machine_of
-      ask_fault w n = λ sixteen so. rw (some_left s r.replies h, ← q, w) (pass_stops x.outcome n)
+      ask_fault w n = λ sixteen so. rw (some_left s r.replies h, ← q, w) (pass_stops (Told x.outcome) x.outcome refl n)
 
   pub ask_told : (t : Turn) (mem' : List ℕ) (x : Reply) → x ≡ reply_of (take 48 (drop (r.replies * 48) s)) → r.replies * 48 + 48 ≤ length s → x.outcome ≡ 0
       → mem' ≡ written_at mem x.offset (take x.length x.bytes) → length mem' ≡ length mem → t ≡ sets (with_replies r (r.replies + 1)) x.register x.value
@@ -87,24 +90,29 @@ module _ (e : Env) (s : List ℕ) (d : ℕ) (f : RegFile) (r : Run) (mem st : Li
 
 -- ---- what follows a reply
 
+-- no fault tells no refusal
+none_tells : (n : Option Fault) (x : Refusal) → is_some n ≡ false → Tells n x → ⊥
+none_tells None x z h = h
+none_tells (Some n) x z h = let w : ◌≡◌ {A = ℕ} 0 1 = cc in omega arith
+
 module _ (e : Env) (s : List ℕ) (d : ℕ) (f : RegFile) (m : Machine) (u n : ℕ) (t : Turn) (b : Bufs) (h : Played e s d f u n (asking (bare m) next) t b) (k : Machine → Rule) where
   -- the machine that a reply leaves
   abbrev told : Reply → List Reply → Machine
   told x rs = replied x (replies_to (bare m) rs)
 
-  pub asked_stops : (t.fault ≡ 0 → ⊥) → Played e s d f u n (asking (bare m) k) t b
+  pub asked_stops : is_some t.fault ≡ true → Played e s d f u n (asking (bare m) k) t b
   unfolding play
   asked_stops z = go m.replies h
     where
       row : (x : Reply) (rs : List Reply) (o : ℕ) → Played e s d f u n (pass o (next (told x rs))) t b → Played e s d f u n (pass o (k (told x rs))) t b
-      row x rs zero y = absurd (z y.turned.0)
+      row x rs zero y = let k = y.turned.0 in absurd (let w : ◌≡◌ {A = ℕ} 0 1 = cc in omega arith)
       row x rs (suc o) y = record { turned = y.turned }
 
       go : (l : List Reply) → Played e s d f u n (asking_of l (bare m) next) t b → Played e s d f u n (asking_of l (bare m) k) t b
       go [] y = record { turned = y.turned }
       go (x ∷ rs) y = row x rs x.outcome y
 
-  pub asked_on : (v : Turn) (a : Bufs) → t.fault ≡ 0 →
+  pub asked_on : (v : Turn) (a : Bufs) → is_some t.fault ≡ false →
       (Sound e s d t.run b → Played e s d f t.run.meter.used t.run.fetches (k (bare (machine_of s t.run (puts t.put f) b))) v a) →
       Played e s d f u n (asking (bare m) k) v a
   unfolding play machine_of
@@ -114,8 +122,8 @@ module _ (e : Env) (s : List ℕ) (d : ℕ) (f : RegFile) (m : Machine) (u n : �
       row x rs zero y =
           let left = y.turned.2 in
           record { turned = (subst (λ (q : Machine). Played e s d f q.used q.fetches (k (bare q)) v a) left.is (on left.sound)).turned }
-      row x rs (suc o) y = absurd (omega (arith, y.turned.1, z))
+      row x rs (suc o) y = absurd (none_tells t.fault _ z y.turned)
 
       go : (l : List Reply) → Played e s d f u n (asking_of l (bare m) next) t b → Played e s d f u n (asking_of l (bare m) k) v a
-      go [] y = absurd (omega (arith, y.turned.1, z))
+      go [] y = absurd (none_tells t.fault _ z y.turned)
       go (x ∷ rs) y = row x rs x.outcome y

@@ -1,5 +1,5 @@
 -- A check is a price, which may be capped, and a reply. Assumes nothing.
-use Rattle.std.specs.Prelude.{◌≡◌, refl, Bool, true, false, List, ℕ, ◌+◌, ◌-◌, ◌^◌, ◌≤◌, ◌<◌, min, leb}
+use Rattle.std.specs.Prelude.{◌≡◌, refl, Bool, true, false, List, ℕ, ◌+◌, ◌-◌, ◌^◌, ◌≤◌, ◌<◌, min, leb, Option}
 use Rattle.std.proofs.Common.{sym, ◌∙◌, arith, le-leb, leb-true, leb-false}
 use Rattle.std.proofs.Math.Nat.{min-eq_left, min-eq_right}
 use Rattle.std.proofs.lemmas.Bool.{lt-leb}
@@ -13,7 +13,6 @@ use Rattle.machine.specs.Does.{paid_by}
 use Rattle.machine.specs.declared.action.Check.{Check}
 use Rattle.machine.specs.declared.action.Check.TheVariants.{VerifyMl, VerifySlh, MerkleVerify, Addr}
 use Rattle.machine.specs.declared.run.Run.{Run}
-use Rattle.machine.specs.declared.run.Paid.{Paid}
 use Rattle.ops_crypto.specs.Prices.{check_price}
 use Rattle.ops_crypto.specs.PayLaws.{Priced, priced}
 
@@ -46,7 +45,7 @@ check_priced e o m u n some w l = plain o ∙ capped_pays e.limit u n (check_pri
     plain Addr = let z : u + 0 ≡ u = omega arith in rw (z, le-leb u e.limit w)
 
 pub check_pays : (e : Env) (s : List ℕ) (d : ℕ) (f : RegFile) (o : Check) (r : Run) (b : Bufs) → r.meter.limit < 2 ^ 64
-    → (p : ℕ) → p ≡ min (check_price o f e.host) (2 ^ 64 - 1) → (x : Paid) → x ≡ paid_by r p → Priced e s d f r b (check_of e o) (λ m. asking m next) x
+    → (p : ℕ) → p ≡ min (check_price o f e.host) (2 ^ 64 - 1) → (x : Option Run) → x ≡ paid_by r p → Priced e s d f r b (check_of e o) (λ m. asking m next) x
 unfolding machine_of
 check_pays e s d f o r b l p q x h =
     priced (check_of e o) (λ m. asking m next) p h

@@ -1,19 +1,14 @@
 -- Each way out of authorising what a Hash made is what the rule comes to. Assumes nothing.
-use Rattle.std.specs.Prelude.{◌≡◌, Bool, List, ℕ, ◌+◌, ◌-◌, ◌≤◌, ◌<◌, length, take, drop}
+use Rattle.std.specs.Prelude.{◌≡◌, List, ℕ, ◌+◌, ◌-◌, ◌≤◌, ◌<◌, length, take, drop, Option, Some, None}
 use Rattle.std.proofs.Math.Path.{refl, sym, ap}
 use Rattle.std.proofs.Common.{◌∙◌, subst, arith, le-leb}
 use Rattle.std.proofs.Math.Bool.{true, false}
-use Rattle.std.proofs.Math.Option.{Option, some, none}
 use Rattle.std.proofs.lemmas.Bool.{lt-leb}
 use Rattle.words.specs.Bytes.{num}
 use Rattle.words.specs.Choice.{pick}
 use Rattle.words.specs.ChoiceLaws.{both_true, both_false}
-use Rattle.state.specs.Memory.{inside, region_of, load_of}
+use Rattle.state.specs.Memory.{inside, load_of}
 use Rattle.state.specs.declared.regs.RegFile.{RegFile}
-use Rattle.state.specs.declared.memory.Region.{Region}
-use Rattle.state.specs.declared.memory.Region.TheVariants.{Part, Outside}
-use Rattle.state.specs.declared.memory.Load.{Load}
-use Rattle.state.specs.declared.memory.Load.TheVariants.{Word, BadMemory}
 use Rattle.keys.specs.Known.{Keys}
 use Rattle.keys.specs.Known as known
 use Rattle.keys.specs.Steps.{keyed, authorised}
@@ -31,8 +26,6 @@ use Rattle.machine.specs.Lent.{Bufs, bufs}
 use Rattle.machine.specs.Sound.{machine_of, Sound}
 use Rattle.machine.specs.Does.{paid_by, stops, puts, Played, DoesFrom}
 use Rattle.machine.specs.declared.run.Run.{Run}
-use Rattle.machine.specs.declared.run.Paid.{Paid}
-use Rattle.machine.specs.declared.run.Paid.TheVariants as paid
 use Rattle.machine.specs.declared.turn.Put.{Put}
 use Rattle.machine.specs.declared.turn.Turn.{Turn}
 use Rattle.ops_crypto.specs.Answers.{goes_with}
@@ -40,26 +33,18 @@ use Rattle.ops_crypto.specs.Taints.{settling, admitting}
 use Rattle.machine.specs.RunParts.{with_counts, with_keyed}
 use Rattle.machine.specs.SoundLaws.{keyed_sound, tables_sound}
 use Rattle.machine.proofs.TurnLaws.{need_on, need_stops, paid_is, paid_on, paid_off}
-use Rattle.state.specs.RegionLaws.{missed, found, part_is}
+use Rattle.state.specs.declared.fault.Fault.TheVariants.{EffectsTooLarge, NoRoom, OutOfMeter}
 
 -- ---- the base
 
 module _ (mem : List ℕ) (at n : ℕ) where
-  pub base_short : n < 8 → none ≡ base_of mem at n
+  pub base_short : n < 8 → None ≡ base_of mem at n
   unfolding base_of
   base_short h = rw (lt-leb 8 n h)
 
-  abbrev loaded : Load → Option ℕ
-  loaded (Word v) = some v
-  loaded BadMemory = none
-
-  pub base_loaded : 8 ≤ n → (x y : Load) → x ≡ load_of mem at → x ≡ y → loaded y ≡ base_of mem at n
+  pub base_loaded : 8 ≤ n → load_of mem at ≡ base_of mem at n
   unfolding base_of
-  base_loaded h x y q k = ap loaded (sym k ∙ q) ∙ rw (le-leb 8 n h) (go (inside (length mem) at 8))
-    where
-      go : (t : Bool) → loaded (pick t (Word (num (take 8 (drop at mem)))) BadMemory) ≡ pick t (some (num (take 8 (drop at mem)))) none
-      go true = refl
-      go false = refl
+  base_loaded h = rw (le-leb 8 n h)
 
 -- a key made from a base, by its plan
 planned_step : (e : Env) (m : Machine) (base k : ℕ) (plan : KeyPlan) → plan ≡ key_plan e.rooms e.keys m.keys base k
@@ -76,14 +61,14 @@ module _ (e : Env) (s : List ℕ) (d : ℕ) (f : RegFile) (r : Run) (p : Put) (b
   -- ---- as planned and paid
 
   module _ (plan : KeyPlan) (want : Keys) (few : r.keyed ≤ 1048576) where
-    pub settle_capped : (a : Bufs) (t : Turn) → t ≡ stops r 11 → 1048576 - r.keyed < plan.bytes → DoesFrom e s d (settling plan want) r f (puts p f) b a t
+    pub settle_capped : (a : Bufs) (t : Turn) → t ≡ stops r EffectsTooLarge → 1048576 - r.keyed < plan.bytes → DoesFrom e s d (settling plan want) r f (puts p f) b a t
     unfolding play machine_of
-    settle_capped a t w h = λ sixteen so. rw w (need_stops 11 (omega arith) (lt-leb (r.keyed + plan.bytes) 1048576 (omega arith)))
+    settle_capped a t w h = λ sixteen so. rw w (need_stops EffectsTooLarge 11 refl (omega arith) (lt-leb (r.keyed + plan.bytes) 1048576 (omega arith)))
 
     module _ (h : plan.bytes ≤ 1048576 - r.keyed) where
-      pub settle_full : (a : Bufs) (t : Turn) → t ≡ stops r 48 → plan.room ≡ false → DoesFrom e s d (settling plan want) r f (puts p f) b a t
+      pub settle_full : (a : Bufs) (t : Turn) → t ≡ stops r NoRoom → plan.room ≡ false → DoesFrom e s d (settling plan want) r f (puts p f) b a t
       unfolding play machine_of
-      settle_full a t w o = λ sixteen so. rw w (need_on 11 (le-leb (r.keyed + plan.bytes) 1048576 (omega arith)) (need_stops 48 (omega arith) o))
+      settle_full a t w o = λ sixteen so. rw w (need_on 11 (le-leb (r.keyed + plan.bytes) 1048576 (omega arith)) (need_stops NoRoom 48 refl (omega arith) o))
 
       module _ (n : Counts) (ur uw : List ℕ) (lr : length ur ≡ length b.keys.may_read) (lw : length uw ≡ length b.keys.may_write) where
         abbrev ks : tables.KeyBufs
@@ -127,11 +112,11 @@ module _ (e : Env) (s : List ℕ) (d : ℕ) (f : RegFile) (r : Run) (p : Put) (b
         DoesFrom e s d (admitting e base k) r f (puts p f) b b t
     admit_not t q o w = λ sixteen so. by_plan b t (q so) so (rw o (goes_with_lem t w sixteen so))
 
-    module _ (y : plan.keyed ≡ true) (x : Paid) (h : x ≡ paid_by r plan.price) (a : Bufs) (t : Turn) (q : Sound e s d r b → Planned r.counts) where
-      pub admit_unpaid : x ≡ paid.OutOfMeter → t ≡ stops r 1 → DoesFrom e s d (admitting e base k) r f (puts p f) b a t
+    module _ (y : plan.keyed ≡ true) (x : Option Run) (h : x ≡ paid_by r plan.price) (a : Bufs) (t : Turn) (q : Sound e s d r b → Planned r.counts) where
+      pub admit_unpaid : x ≡ None → t ≡ stops r OutOfMeter → DoesFrom e s d (admitting e base k) r f (puts p f) b a t
       admit_unpaid j w = λ sixteen so. by_plan a t (q so) so (rw (y, w) (paid_off (puts p f) so h (settling plan (want r.counts)) j))
 
-      pub admit_paid : (n : Run) → x ≡ paid.Done n → (Planned n.counts → DoesFrom e s d (settling plan (want n.counts)) n f (puts p f) b a t) →
+      pub admit_paid : (n : Run) → x ≡ Some n → (Planned n.counts → DoesFrom e s d (settling plan (want n.counts)) n f (puts p f) b a t) →
           DoesFrom e s d (admitting e base k) r f (puts p f) b a t
       admit_paid n j on =
           let c : n.counts ≡ r.counts = ap (λ (z : Run). z.counts) (paid_is r plan.price x n h j) in
@@ -141,18 +126,16 @@ module _ (e : Env) (s : List ℕ) (d : ℕ) (f : RegFile) (r : Run) (p : Put) (b
 
   -- ---- a base and an output
 
-  pub taint_none : (out : ℕ) (t : Turn) → t ≡ goes_with r p → DoesFrom e s d (tainting e none out) r f (puts p f) b b t
+  pub taint_none : (out : ℕ) (t : Turn) → t ≡ goes_with r p → DoesFrom e s d (tainting e None out) r f (puts p f) b b t
   unfolding tainting
   taint_none out t w = goes_with_lem t w
 
-  module _ (base out : ℕ) (x : Region) (h : x ≡ region_of (length b.memory) out 32) where
-    pub taint_outside : (t : Turn) → x ≡ Outside → t ≡ goes_with r p → DoesFrom e s d (tainting e (some base) out) r f (puts p f) b b t
+  module _ (base out : ℕ) where
+    pub taint_outside : (t : Turn) → inside (length b.memory) out 32 ≡ false → t ≡ goes_with r p → DoesFrom e s d (tainting e (Some base) out) r f (puts p f) b b t
     unfolding tainting machine_of
-    taint_outside t k w = λ sixteen so. rw (missed (length b.memory) out 32 x h k, both_false (keyed e.keys base)) (goes_with_lem t w sixteen so)
+    taint_outside t h w = λ sixteen so. rw (h, both_false (keyed e.keys base)) (goes_with_lem t w sixteen so)
 
-    pub taint_inside : (at end : ℕ) (a : Bufs) (t : Turn) → x ≡ Part at end →
-        DoesFrom e s d (admitting e base (num (take (end - at) (drop at b.memory)))) r f (puts p f) b a t
-        → DoesFrom e s d (tainting e (some base) out) r f (puts p f) b a t
+    pub taint_inside : (key : List ℕ) (a : Bufs) (t : Turn) → inside (length b.memory) out 32 ≡ true → key ≡ take 32 (drop out b.memory)
+        → DoesFrom e s d (admitting e base (num key)) r f (puts p f) b a t → DoesFrom e s d (tainting e (Some base) out) r f (puts p f) b a t
     unfolding tainting machine_of
-    taint_inside at end a t k y =
-        λ sixteen so. rw ((found (length b.memory) out 32 x h at end k).within, both_true (keyed e.keys base), ← part_is b.memory out 32 x h at end k) (y sixteen so)
+    taint_inside key a t h k y = λ sixteen so. rw (h, both_true (keyed e.keys base), ← k) (y sixteen so)

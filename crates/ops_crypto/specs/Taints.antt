@@ -1,5 +1,4 @@
 -- The parts of what a Hash may authorise, as the code takes them.
-use Rattle.std.proofs.Math.Option.{Option, some, none}
 use Rattle.std.specs.Prelude.{ℕ, ◌+◌, leb}
 use Rattle.words.specs.Choice.{pick}
 use Rattle.keys.specs.Known.{Keys}
@@ -8,12 +7,6 @@ use Rattle.keys.specs.declared.authorise.KeyPlan.{KeyPlan}
 use Rattle.machine.specs.Machine.{Env, Machine, keys_to, keyed_to}
 use Rattle.machine.specs.Rules.{Rule, next, need}
 use Rattle.machine.specs.CryptoRules.{authorising}
-use Rattle.ops_crypto.specs.declared.taint.Base.{Base}
-use Rattle.ops_crypto.specs.declared.taint.Base.TheVariants.{Number, Nothing}
-
-abbrev pub base_in : Base → Option ℕ
-base_in (Number n) = some n
-base_in Nothing = none
 
 -- authorising by a plan, once it is paid
 abbrev pub settling : KeyPlan → Keys → Machine → Rule

@@ -1,5 +1,5 @@
 // The next reply.
-ghost use Rattle.std.specs.Prelude.{◌≡◌, List, ℕ, ◌*◌, ◌≤◌, min, length};
+ghost use Rattle.std.specs.Prelude.{◌≡◌, List, ℕ, ◌*◌, ◌≤◌, length};
 ghost use Rattle.state.specs.declared.regs.RegFile.{RegFile};
 ghost use Rattle.keys.specs.Lent as tables;
 ghost use Rattle.machine.specs.Machine.{Env};
@@ -10,13 +10,7 @@ ghost use Rattle.machine.specs.Does.{Does};
 
 use machine::run::Run;
 use machine::turn::Turn;
-
-// How many bytes of a row a length takes.
-fn shown(length: usize) -> usize
-    ensures { result ≡ min length 32 }
-{
-    if length < 32 { length } else { 32 }
-}
+use state::fault::Fault;
 
 // The next reply's value goes into its register and its bytes into memory; 47 when none is left, and a fault row stops with its fault.
 pub(crate) fn ask(run: Run, replies: &[u8], memory: &mut [u8]) -> Turn
@@ -26,16 +20,15 @@ pub(crate) fn ask(run: Run, replies: &[u8], memory: &mut [u8]) -> Turn
         Does e replies.now d (λ m. asking m next) run f (bufs memory.old stack ks log) (bufs memory.new stack ks log) result }
 {
     if replies.len() - run.replies * 48 < 48 {
-        return machine::turn::stop(run, 47);
+        return machine::turn::stop(run, Fault::NoReply);
     }
     let row = replies::rows::reply(replies, run.replies);
     if row.outcome != 0 {
-        return machine::turn::stop(run, row.outcome as u64);
+        return machine::turn::stop(run, Fault::Told(row.outcome));
     }
-    let n = shown(row.length);
+    let n = row.length.min(32);
     let bytes = row.bytes;
     state::memory::mem_write(memory, row.offset as u64, &bytes[..n]);
-    let mut after = run;
-    after.replies = run.replies + 1;
-    machine::turn::set(after, row.register, row.value)
+    let replies = run.replies + 1;
+    machine::turn::set(Run { replies, ..run }, row.register, row.value)
 }

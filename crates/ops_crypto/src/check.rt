@@ -10,8 +10,9 @@ ghost use Rattle.ops_crypto.specs.Prices.{check_price};
 
 use machine::action::Check;
 use machine::host::Host;
-use machine::run::{Paid, Run};
+use machine::run::Run;
 use machine::turn::Turn;
+use state::fault::Fault;
 
 // The price beyond the base price, or the largest word.
 fn price(o: Check, regs: &[u64], host: Host) -> u64
@@ -44,8 +45,8 @@ pub fn check(
         memory.new stack ks log) result }
 {
     let p = price(o, regs, host);
-    let Paid::Done(rest) = run.pay(p) else {
-        return machine::turn::stop(run, 1);
+    let Some(rest) = run.pay(p) else {
+        return machine::turn::stop(run, Fault::OutOfMeter);
     };
     crate::ask::ask(rest, replies, memory)
 }

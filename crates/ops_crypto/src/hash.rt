@@ -9,8 +9,9 @@ ghost use Rattle.machine.specs.Lent.{lent_to};
 ghost use Rattle.machine.specs.Does.{Does};
 ghost use Rattle.ops_crypto.specs.Answers.{GoodLists};
 
-use machine::run::{Paid, Run};
+use machine::run::Run;
 use machine::turn::Turn;
+use state::fault::Fault;
 
 // The price (1), the reply, then what it makes of the base; base and output are taken before the reply.
 pub fn hash(
@@ -37,11 +38,11 @@ pub fn hash(
     let len = state::regs::read(regs, b);
     let out = state::regs::read(regs, c);
     let base = crate::taint::base_at(memory, at, len);
-    let Paid::Done(rest) = run.pay(meter::hash_variable(len)) else {
-        return machine::turn::stop(run, 1);
+    let Some(rest) = run.pay(meter::hash_variable(len)) else {
+        return machine::turn::stop(run, Fault::OutOfMeter);
     };
     let t = crate::ask::ask(rest, replies, memory);
-    if t.fault != 0 {
+    if t.fault.is_some() {
         return t;
     }
     crate::taint::taint(

@@ -8,31 +8,19 @@ ghost use Rattle.machine.specs.CryptoRules.{base_of, tainting};
 ghost use Rattle.machine.specs.Lent.{lent_to};
 ghost use Rattle.machine.specs.Does.{DoesFrom, puts};
 ghost use Rattle.ops_crypto.specs.Answers.{GoodLists, goes_with};
-ghost use Rattle.ops_crypto.specs.Taints.{base_in};
 
-use machine::run::{Paid, Run};
+use machine::run::Run;
 use machine::turn::{Put, Turn};
-use state::memory::{Load, Region};
-
-// The base of a Hash, if it has one.
-#[derive(Clone, Copy)]
-pub enum Base {
-    Number(u64),
-    Nothing,
-}
+use state::fault::Fault;
 
 // The first eight bytes that are hashed, if there are eight and they are in memory.
-pub fn base_at(memory: &[u8], at: u64, len: u64) -> Base
-    ensures { base_in result ≡ base_of memory.now at len }
+pub fn base_at(memory: &[u8], at: u64, len: u64) -> Option<u64>
+    ensures { result ≡ base_of memory.now at len }
 {
     if len < 8 {
-        return Base::Nothing;
+        return None;
     }
-    let word = state::memory::mem_load(memory, at);
-    match word {
-        Load::Word(v) => Base::Number(v),
-        Load::BadMemory => Base::Nothing,
-    }
+    state::memory::mem_load(memory, at)
 }
 
 // Goes on, with what a reply puts into registers.
@@ -42,7 +30,7 @@ fn go_with(run: Run, put: Put) -> Turn
     Turn {
         run,
         put,
-        fault: 0,
+        fault: None,
         halted: false,
     }
 }
@@ -50,7 +38,7 @@ fn go_with(run: Run, put: Put) -> Turn
 // With a base, the 32 bytes at the output, if in memory, are a key made from it. If the base is declared keyed, the key becomes authorised:
 // its price (1), the total of new entries' bytes (11), room (48).
 pub(crate) fn taint(
-    base: Base,
+    base: Option<u64>,
     out: u64,
     run: Run,
     put: Put,
@@ -63,17 +51,16 @@ pub(crate) fn taint(
     requires { (run.keyed ≤ 1048576) × GoodLists run.counts readable.old writable.old }
     ensures { (e : Env) (s rd wr st ld stack ch fe pd log : List ℕ) (d : ℕ) (f : RegFile) (l : TableRows) →
         e.keys ≡ key_env_of l (given rd wr keyed_reads.now keyed_writes.now st ld) →
-        DoesFrom e s d (tainting e (base_in base) out) run f (puts put f)
+        DoesFrom e s d (tainting e base out) run f (puts put f)
         (lent_to memory.now stack ch fe readable.old writable.old pd log)
         (lent_to memory.now stack ch fe readable.new writable.new pd log) result }
 {
-    let Base::Number(n) = base else {
+    let Some(n) = base else {
         return go_with(run, put);
     };
-    let Region::Part(at, end) = state::memory::mem_region(memory, out, 32) else {
+    let Some(key) = state::memory::mem_key(memory, out) else {
         return go_with(run, put);
     };
-    let key = &memory[at..end];
     let plan = keys::authorise::plan_authorise(
         run.counts,
         keyed_reads,
@@ -86,17 +73,23 @@ pub(crate) fn taint(
     if !plan.keyed {
         return go_with(run, put);
     }
-    let Paid::Done(rest) = run.pay(plan.price) else {
-        return machine::turn::stop(run, 1);
+    let Some(rest) = run.pay(plan.price) else {
+        return machine::turn::stop(run, Fault::OutOfMeter);
     };
     if 1048576 - rest.keyed < plan.bytes {
-        return machine::turn::stop(rest, 11);
+        return machine::turn::stop(rest, Fault::EffectsTooLarge);
     }
     if !plan.room {
-        return machine::turn::stop(rest, 48);
+        return machine::turn::stop(rest, Fault::NoRoom);
     }
-    let mut after = rest;
-    after.keyed = rest.keyed + plan.bytes;
-    after.counts = keys::authorise::authorise(rest.counts, plan, readable, writable, key);
-    go_with(after, put)
+    let keyed = rest.keyed + plan.bytes;
+    let counts = keys::authorise::authorise(rest.counts, plan, readable, writable, key);
+    go_with(
+        Run {
+            counts,
+            keyed,
+            ..rest
+        },
+        put,
+    )
 }

@@ -17,6 +17,7 @@ use Rattle.machine.specs.declared.run.Run.{Run}
 use Rattle.machine.specs.declared.turn.Turn.{Turn}
 use Rattle.ops_moves.specs.Around.{Around, DoesIn, JumpsTo}
 use Rattle.ops_moves.specs.MoveLaws.{move_goes_on}
+use Rattle.state.specs.declared.fault.Fault.TheVariants.{BadJump}
 
 -- a marked place is within the map
 within_map : (map : List ℕ) (p : ℕ) → marked map p ≡ true → p / 8 < length map
@@ -36,9 +37,9 @@ module _ (r : Run) (target : ℕ) (map : List ℕ) (b : Bool) (e : b ≡ marked 
       (sym (holds.at target) ∙ sym e ∙ k)
       (move_goes_on x (with_place r target) f mem st l on)
 
-  pub jumps_not : b ≡ false → JumpsTo r target map (stops r 7)
+  pub jumps_not : b ≡ false → JumpsTo r target map (stops r BadJump)
   jumps_not k x f mem st lm holds l so =
-      need_stops 7 (omega arith)
+      need_stops BadJump 7 refl (omega arith)
       (sym (holds.at target) ∙ sym e ∙ k)
 
 -- a jump on a register's value: the first rule where it is 0, else the second

@@ -5,15 +5,14 @@ ghost use Rattle.ops_moves.specs.Around.{Moves, Constants, Pushes, Pops, MemoryL
 use machine::action::Move;
 use machine::run::Run;
 use machine::turn::Turn;
-use state::memory::Load;
-use state::stack::{Popped, Pushed};
+use state::fault::Fault;
 
 // Constant k, where it stands among the container's bytes.
 fn constant(run: Run, consts: &[u8], d: u8, k: usize) -> Turn
     ensures { Constants run consts.now d k result }
 {
     if consts.len() / 8 <= k {
-        return machine::turn::stop(run, 8);
+        return machine::turn::stop(run, Fault::BadConst);
     }
     let v = words::bytes::read(consts, k * 8, 8);
     machine::turn::set(run, d, v)
@@ -22,39 +21,29 @@ fn constant(run: Run, consts: &[u8], d: u8, k: usize) -> Turn
 fn push(run: Run, stack: &mut [u64], v: u64) -> Turn
     ensures { Pushes run v stack.old stack.new result }
 {
-    let p = state::stack::push(stack, run.depth, v);
-    match p {
-        Pushed::Depth(n) => {
-            let mut next = run;
-            next.depth = n;
-            machine::turn::go_on(next)
-        }
-        Pushed::StackOverflow => machine::turn::stop(run, 4),
-    }
+    let Some(depth) = state::stack::push(stack, run.depth, v) else {
+        return machine::turn::stop(run, Fault::StackOverflow);
+    };
+    machine::turn::go_on(Run { depth, ..run })
 }
 
 fn pop(run: Run, stack: &[u64], d: u8) -> Turn
     requires { run.depth ≤ length stack.now }
     ensures { Pops run d stack.now result }
 {
-    let p = state::stack::pop(stack, run.depth);
-    match p {
-        Popped::Word(v) => {
-            let mut next = run;
-            next.depth = run.depth - 1;
-            machine::turn::set(next, d, v)
-        }
-        Popped::StackUnderflow => machine::turn::stop(run, 5),
-    }
+    let Some(v) = state::stack::pop(stack, run.depth) else {
+        return machine::turn::stop(run, Fault::StackUnderflow);
+    };
+    let depth = run.depth - 1;
+    machine::turn::set(Run { depth, ..run }, d, v)
 }
 
 fn load(run: Run, memory: &[u8], d: u8, at: u64) -> Turn
     ensures { MemoryLoads run d at memory.now result }
 {
-    let l = state::memory::mem_load(memory, at);
-    match l {
-        Load::Word(v) => machine::turn::set(run, d, v),
-        Load::BadMemory => machine::turn::stop(run, 6),
+    match state::memory::mem_load(memory, at) {
+        Some(v) => machine::turn::set(run, d, v),
+        None => machine::turn::stop(run, Fault::BadMemory),
     }
 }
 
@@ -64,7 +53,7 @@ fn store(run: Run, memory: &mut [u8], at: u64, v: u64) -> Turn
     if state::memory::mem_store(memory, at, v) {
         return machine::turn::go_on(run);
     }
-    machine::turn::stop(run, 6)
+    machine::turn::stop(run, Fault::BadMemory)
 }
 
 pub fn step(

@@ -1,7 +1,7 @@
 -- A record appended to the log is one effect more, and the state stays sound; without room it is 48. Assumes nothing.
 use Rattle.std.proofs.Math.Path.{◌≡◌, refl, ap}
 use Rattle.std.proofs.Common.{sym, ◌∙◌, subst, arith, length-take, length-drop, length-take-le, drop_at, drop-drop, leb-true}
-use Rattle.std.specs.Prelude.{Bool, List, [], ◌∷◌, ℕ, zero, suc, ◌+◌, ◌-◌, ◌≤◌, ◌<◌, leb, eqb, length, take, drop, replicate}
+use Rattle.std.specs.Prelude.{Bool, List, [], ◌∷◌, ℕ, zero, suc, ◌+◌, ◌-◌, ◌≤◌, ◌<◌, leb, eqb, length, take, drop, replicate, Option, Some, None}
 use Rattle.std.proofs.Math.Bool.{true, false}
 use Rattle.std.proofs.lemmas.List.{length-replicate, replicate-append-replicate}
 use Rattle.words.specs.Choice.{pick, bit}
@@ -11,8 +11,6 @@ use Rattle.effects.specs.ReadBack.{effects_of}
 use Rattle.effects.specs.LogTheorems.{appended_log, read_back_log}
 use Rattle.effects.specs.Counts.{events}
 use Rattle.effects.specs.Appended.{grown_of, Appended}
-use Rattle.effects.specs.declared.log.Grown.{Grown}
-use Rattle.effects.specs.declared.log.Grown.TheVariants as grown
 use Rattle.machine.specs.Machine.{Env, Machine, effects_to}
 use Rattle.machine.specs.PostRules.{posting}
 use Rattle.machine.specs.Lent.{Bufs}
@@ -23,6 +21,7 @@ use Rattle.machine.specs.Does.{goes, stops}
 use Rattle.machine.proofs.TurnLaws.{need_on, need_stops, goes_next}
 use Rattle.machine.specs.declared.run.Run.{Run}
 use Rattle.ops_posts.specs.EffectRules.{Comes}
+use Rattle.state.specs.declared.fault.Fault.TheVariants.{NoRoom}
 
 zeroes_left : (k n : ℕ) → drop k (replicate {A = ℕ} (k + n) 0) ≡ replicate n 0
 zeroes_left k n = ap (drop k) (sym (replicate-append-replicate k n 0)) ∙ drop_at (replicate k 0) (replicate n 0) k (length-replicate k 0)
@@ -33,23 +32,23 @@ kind_counts zero h = refl
 kind_counts (suc zero) h = refl
 kind_counts (suc (suc k)) h = absurd (omega arith)
 
-module _ (x : Effect) (run : Run) (t u : List ℕ) (g : Grown) (a : Appended x run.log t u g) where
+module _ (x : Effect) (run : Run) (t u : List ℕ) (g : Option ℕ) (a : Appended x run.log t u g) where
   abbrev size : ℕ
   size = run.log + length x.bytes + 13
 
-  full : g ≡ grown.NoRoom → leb size (length t) ≡ false
+  full : g ≡ None → leb size (length t) ≡ false
   unfolding grown_of
   full k = go (leb size (length t)) (sym k ∙ a.answer)
     where
-      go : (o : Bool) → grown.NoRoom ≡ pick o (grown.End size) grown.NoRoom → o ≡ false
+      go : (o : Bool) → None ≡ pick o (Some size) None → o ≡ false
       go true z = absurd (let w : ◌≡◌ {A = ℕ} 0 1 = cc in omega arith)
       go false z = refl
 
-  fits : (m : ℕ) → g ≡ grown.End m → (leb size (length t) ≡ true) × (m ≡ size)
+  fits : (m : ℕ) → g ≡ Some m → (leb size (length t) ≡ true) × (m ≡ size)
   unfolding grown_of
   fits m k = go (leb size (length t)) (sym k ∙ a.answer)
     where
-      go : (o : Bool) → grown.End m ≡ pick o (grown.End size) grown.NoRoom → (o ≡ true) × (m ≡ size)
+      go : (o : Bool) → Some m ≡ pick o (Some size) None → (o ≡ true) × (m ≡ size)
       go true z = (refl, cc)
       go false z = absurd (let w : ◌≡◌ {A = ℕ} 0 1 = cc in omega arith)
 
@@ -66,9 +65,9 @@ module _ (x : Effect) (run : Run) (t u : List ℕ) (g : Grown) (a : Appended x r
     room_is : leb (length (log_of (x ∷ es))) e.log_room ≡ leb size (length t)
     room_is = rw (size_is, so.sized.log)
 
-    module _ (m : ℕ) (k : g ≡ grown.End m) (few : run.events < run.posted) (kind : x.kind ≤ 1) (sm : FitTrailers (x ∷ [])) where
-      ended : Appended x run.log t u (grown.End m)
-      ended = subst (λ (o : Grown). Appended x run.log t u o) k a
+    module _ (m : ℕ) (k : g ≡ Some m) (few : run.events < run.posted) (kind : x.kind ≤ 1) (sm : FitTrailers (x ∷ [])) where
+      ended : Appended x run.log t u (Some m)
+      ended = subst (λ (o : Option ℕ). Appended x run.log t u o) k a
 
       small : FitTrailers (x ∷ es)
       small = (sm.0, sm.1, so.logged.small)
@@ -106,13 +105,13 @@ module _ (x : Effect) (run : Run) (t u : List ℕ) (g : Grown) (a : Appended x r
           let q : run.events + x.kind ≡ bit (eqb x.kind 1) + events es = omega (arith, n, so.counted.events) in
           log_sound so m (run.events + x.kind) u as_long logged_on (q ∙ ap events (sym effects_are)) (omega (arith, few, kind))
 
-  pub no_room_stops : {o : Run} → g ≡ grown.NoRoom → Comes (λ e. posting e x) run t u (stops o 48)
+  pub no_room_stops : {o : Run} → g ≡ None → Comes (λ e. posting e x) run t u (stops o NoRoom)
   unfolding machine_of
   no_room_stops k = record {
-    turned = λ e s d f b l so. need_stops 48 (omega arith) (room_is e s d b so ∙ full k);
+    turned = λ e s d f b l so. need_stops NoRoom 48 refl (omega arith) (room_is e s d b so ∙ full k);
   }
 
-  pub appended_goes : (m : ℕ) → g ≡ grown.End m → run.events < run.posted → x.kind ≤ 1 → FitTrailers (x ∷ []) →
+  pub appended_goes : (m : ℕ) → g ≡ Some m → run.events < run.posted → x.kind ≤ 1 → FitTrailers (x ∷ []) →
       Comes (λ e. posting e x) run t u (goes (with_log run m (run.events + x.kind)))
   unfolding machine_of
   appended_goes m k few kind sm = record {

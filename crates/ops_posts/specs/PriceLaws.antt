@@ -1,6 +1,5 @@
 -- The parts of a price make the price. Assumes nothing.
-use Rattle.std.specs.Prelude.{◌≡◌, Bool, true, false, List, ℕ, ◌+◌, ◌*◌, ◌≤◌, leb, length}
-use Rattle.std.proofs.Math.Option.{some}
+use Rattle.std.specs.Prelude.{◌≡◌, Bool, true, false, List, ℕ, ◌+◌, ◌*◌, ◌≤◌, leb, length, Some}
 use Rattle.std.proofs.Common.{arith}
 use Rattle.words.specs.Choice.{pick}
 use Rattle.effects.specs.Log.{Effect}
@@ -10,15 +9,15 @@ use Rattle.machine.specs.PostRules.{target_price, event_price}
 use Rattle.ops_posts.specs.EffectRules.{effect, later_price}
 
 -- a target's price by what the log holds: it, another, or none
-pub known_free : (t : Target) (es : List Effect) → known_in t es ≡ true → 0 ≡ target_price (some t) es
+pub known_free : (t : Target) (es : List Effect) → known_in t es ≡ true → 0 ≡ target_price (Some t) es
 unfolding target_price
 known_free t es k = rw k
 
-pub another_paid : (t : Target) (es : List Effect) → known_in t es ≡ false → any_target es ≡ true → 227000 ≡ target_price (some t) es
+pub another_paid : (t : Target) (es : List Effect) → known_in t es ≡ false → any_target es ≡ true → 227000 ≡ target_price (Some t) es
 unfolding target_price
 another_paid t es k a = rw (k, a)
 
-pub first_free : (t : Target) (es : List Effect) → known_in t es ≡ false → any_target es ≡ false → 0 ≡ target_price (some t) es
+pub first_free : (t : Target) (es : List Effect) → known_in t es ≡ false → any_target es ≡ false → 0 ≡ target_price (Some t) es
 unfolding target_price
 first_free t es k a = rw (k, a)
 
@@ -30,7 +29,7 @@ event_small n v h = go (leb 4 n) h
     go false e = omega arith
 
 module _ (kind word : ℕ) (bs : List ℕ) (es : List Effect) where
-  pub transfer_price : (r : ℕ) → kind ≡ 0 → r ≡ target_price (some (record { kind = 0; bytes = bs })) es → r ≡ later_price (effect kind word bs) es
+  pub transfer_price : (r : ℕ) → kind ≡ 0 → r ≡ target_price (Some (record { kind = 0; bytes = bs })) es → r ≡ later_price (effect kind word bs) es
   unfolding later_price target_of
   transfer_price r k h = rw k h
 

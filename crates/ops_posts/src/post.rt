@@ -2,11 +2,10 @@
 ghost use Rattle.std.specs.Prelude.{◌≡◌, ◌≤◌, length};
 ghost use Rattle.ops_posts.specs.EffectRules.{placing, Comes, Posts};
 
-use effects::log::Grown;
 use machine::action::Post;
-use machine::run::{Paid, Run};
+use machine::run::Run;
 use machine::turn::Turn;
-use state::memory::Region;
+use state::fault::Fault;
 
 // An effect of a region's bytes: the region (6), 2 a byte (1), the bytes and 32 into the total (11), the prices that are left (1), the
 // record (48). An event is of kind 1, so its kind counts it.
@@ -22,29 +21,31 @@ fn post_effect(
     requires { (run.log ≤ length log.old) × (run.events ≤ run.posted) × (run.posted ≤ 1048576) × (kind ≤ 1) × (length memory.now ≡ 65536) }
     ensures { Comes (λ e. placing e kind word memory.now at n) run log.old log.new result }
 {
-    let Region::Part(start, end) = state::memory::mem_region(memory, at, n) else {
-        return machine::turn::stop(run, 6);
+    let Some((start, end)) = state::memory::mem_region(memory, at, n) else {
+        return machine::turn::stop(run, Fault::BadMemory);
     };
     let bytes = &memory[start..end];
-    let Paid::Done(moved) = run.pay(2 * bytes.len() as u64) else {
-        return machine::turn::stop(run, 1);
+    let Some(moved) = run.pay(2 * bytes.len() as u64) else {
+        return machine::turn::stop(run, Fault::OutOfMeter);
     };
-    let mut counted = moved;
-    counted.posted = moved.posted + bytes.len() as u64 + 32;
-    if counted.posted > 1048576 {
-        return machine::turn::stop(run, 11);
+    let posted = moved.posted + bytes.len() as u64 + 32;
+    if posted > 1048576 {
+        return machine::turn::stop(run, Fault::EffectsTooLarge);
     }
     let price = crate::prices::price(moved, log, kind, word, bytes);
-    let Paid::Done(paid) = counted.pay(price) else {
-        return machine::turn::stop(run, 1);
+    let counted = Run { posted, ..moved };
+    let Some(paid) = counted.pay(price) else {
+        return machine::turn::stop(run, Fault::OutOfMeter);
     };
-    let Grown::End(to) = effects::log::append(log, paid.log, kind, word, bytes) else {
-        return machine::turn::stop(run, 48);
+    let Some(to) = effects::log::append(log, paid.log, kind, word, bytes) else {
+        return machine::turn::stop(run, Fault::NoRoom);
     };
-    let mut next = paid;
-    next.log = to;
-    next.events += kind as u64;
-    machine::turn::go_on(next)
+    let events = paid.events + kind as u64;
+    machine::turn::go_on(Run {
+        log: to,
+        events,
+        ..paid
+    })
 }
 
 // One Send or Emit.
@@ -61,7 +62,7 @@ pub fn post(o: Post, run: Run, regs: &[u64], memory: &[u8], log: &mut [u8]) -> T
         Post::Emit(a, b, c) => {
             let selector = state::regs::read(regs, c);
             if selector > 4294967295 {
-                return machine::turn::stop(run, 14);
+                return machine::turn::stop(run, Fault::Malformed);
             }
             let at = state::regs::read(regs, a);
             post_effect(

@@ -1,6 +1,5 @@
 // What an effect costs beyond 2 a byte, by the log before it.
 ghost use Rattle.std.specs.Prelude.{◌≡◌, List, ◌≤◌, leb, length, take};
-ghost use Rattle.std.proofs.Math.Option.{some};
 ghost use Rattle.words.specs.Choice.{pick};
 ghost use Rattle.effects.specs.Log.{Effect, FitTrailers, log_of};
 ghost use Rattle.effects.specs.Targets.{target_of};
@@ -17,7 +16,7 @@ const MINT: u64 = 0x4D494E5400000000;
 fn target_price(log: &[u8], end: usize, kind: u8, target: &[u8]) -> u64
     requires { end ≤ length log.now }
     ensures { (result ≤ 227000) × ((es : List Effect) → FitTrailers es → take end log.now ≡ log_of es → result ≡
-        target_price (some (record { kind = kind; bytes = target.now })) es) }
+        target_price (Some (record { kind = kind; bytes = target.now })) es) }
 {
     if effects::targets::known(log, end, kind, target) {
         return 0;

@@ -1,5 +1,5 @@
 -- The right and the room that a load and a store both ask. Assumes nothing.
-use Rattle.std.specs.Prelude.{◌≡◌, Bool, true, false, List, ℕ}
+use Rattle.std.specs.Prelude.{◌≡◌, Bool, true, false, List, ℕ, refl}
 use Rattle.std.proofs.Common.{sym, ap, ◌∙◌, subst, arith}
 use Rattle.state.specs.declared.regs.RegFile.{RegFile}
 use Rattle.keys.specs.Known as known
@@ -12,14 +12,15 @@ use Rattle.machine.specs.Does.{stops, Played}
 use Rattle.machine.proofs.TurnLaws.{need_on, need_stops}
 use Rattle.machine.specs.declared.run.Run.{Run}
 use Rattle.machine.specs.declared.turn.Turn.{Turn}
+use Rattle.state.specs.declared.fault.Fault.TheVariants.{UndeclaredSlot}
 
 -- a right that is asked of what a run is given about keys, and what follows it
 module _ {e : Env} {s : List ℕ} {d : ℕ} {f : RegFile} {a : Bufs} {u n : ℕ} {x : known.KeyEnv} (ek : e.keys ≡ x) (may : known.KeyEnv → Bool) (then : known.KeyEnv → Rule) {right : Bool} (q : right ≡ may x) where
   with_given : {t : Turn} → Played e s d f u n (need (may x) 12 (then x)) t a → Played e s d f u n (need (may e.keys) 12 (then e.keys)) t a
   with_given {t} h = subst (λ (z : known.KeyEnv). Played e s d f u n (need (may z) 12 (then z)) t a) (sym ek) h
 
-  pub right_denied : {r : Run} → right ≡ false → Played e s d f u n (need (may e.keys) 12 (then e.keys)) (stops r 12) a
-  right_denied o = with_given (need_stops 12 (omega arith) (sym q ∙ o))
+  pub right_denied : {r : Run} → right ≡ false → Played e s d f u n (need (may e.keys) 12 (then e.keys)) (stops r UndeclaredSlot) a
+  right_denied o = with_given (need_stops UndeclaredSlot 12 refl (omega arith) (sym q ∙ o))
 
   pub right_given : {t : Turn} → right ≡ true → Played e s d f u n (then x) t a → Played e s d f u n (need (may e.keys) 12 (then e.keys)) t a
   right_given o h = with_given (need_on 12 (sym q ∙ o) h)

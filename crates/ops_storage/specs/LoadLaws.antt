@@ -1,5 +1,5 @@
 -- Each way out of a load is what the rule comes to. Assumes nothing.
-use Rattle.std.specs.Prelude.{◌≡◌, Bool, true, false, List, ℕ, length}
+use Rattle.std.specs.Prelude.{◌≡◌, Bool, true, false, List, ℕ, length, refl}
 use Rattle.std.proofs.Common.{arith}
 use Rattle.state.specs.declared.regs.RegFile.{RegFile}
 use Rattle.keys.specs.Values.{may_load, look}
@@ -23,6 +23,7 @@ use Rattle.machine.proofs.TurnLaws.{need_on, need_stops, sets_next}
 use Rattle.machine.specs.declared.run.Run.{Run}
 use Rattle.machine.specs.declared.turn.Turn.{Turn}
 use Rattle.ops_storage.specs.ConditionLaws.{right_denied, right_given, room_is}
+use Rattle.state.specs.declared.fault.Fault.TheVariants.{NoRoom, UndeclaredSlot}
 
 module _ (e : Env) (s : List ℕ) (d : ℕ) (f : RegFile) (l : TableRows) (g : Given) (r : Run) (b : Bufs) (to k : ℕ) where
   abbrev ks : known.Keys
@@ -46,7 +47,7 @@ module _ (e : Env) (s : List ℕ) (d : ℕ) (f : RegFile) (l : TableRows) (g : G
   x = key_env_of l g
 
   module _ (right : Bool) (q : right ≡ may x) where
-    pub load_denied : (a : Bufs) (t : Turn) → t ≡ stops r 12 → right ≡ false → e.keys ≡ x → Does e s d (loading e to k) r f b a t
+    pub load_denied : (a : Bufs) (t : Turn) → t ≡ stops r UndeclaredSlot → right ≡ false → e.keys ≡ x → Does e s d (loading e to k) r f b a t
     unfolding loading machine_of
     load_denied a t w o = λ ek sixteen so. rw w (right_denied ek may fetching q o)
 
@@ -56,8 +57,8 @@ module _ (e : Env) (s : List ℕ) (d : ℕ) (f : RegFile) (l : TableRows) (g : G
       unfolding loading machine_of
       allowed a t ek h = right_given ek may fetching q y h
 
-      pub load_full : (a : Bufs) (t : Turn) → t ≡ stops r 48 → room ≡ false → e.keys ≡ x → Does e s d (loading e to k) r f b a t
-      load_full a t w o = λ ek sixteen so. rw w (allowed a (stops r 48) ek (need_stops 48 (omega arith) (room_is e b (loaded x ks k) so.sized.rooms p o)))
+      pub load_full : (a : Bufs) (t : Turn) → t ≡ stops r NoRoom → room ≡ false → e.keys ≡ x → Does e s d (loading e to k) r f b a t
+      load_full a t w o = λ ek sixteen so. rw w (allowed a (stops r NoRoom) ek (need_stops NoRoom 48 refl (omega arith) (room_is e b (loaded x ks k) so.sized.rooms p o)))
 
       module _ (n : Counts) (u : List ℕ) (seen : Look) (z : seen ≡ look x ks k) (lu : length u ≡ length b.keys.fetched) (left : Leaves (loaded x ks k) n (fetched_to u)) where
         same : rooms_of (fetched_to u) ≡ rooms_of b.keys

@@ -1,14 +1,11 @@
 -- A key's region decides an access: outside it is 6, and inside its 32 bytes are the key. Assumes nothing.
-use Rattle.std.specs.Prelude.{◌≡◌, Bool, List, ℕ, ◌-◌, length, take, drop}
+use Rattle.std.specs.Prelude.{◌≡◌, Bool, true, false, List, ℕ, length, take, drop}
 use Rattle.std.proofs.Math.Path.{refl}
 use Rattle.std.proofs.Common.{sym, ap, ◌∙◌, subst, arith}
 use Rattle.words.specs.Bytes.{num}
 use Rattle.state.specs.Regs.{reg}
-use Rattle.state.specs.Memory.{inside, region_of}
-use Rattle.state.specs.RegionLaws.{missed, found, part_is}
+use Rattle.state.specs.Memory.{inside}
 use Rattle.state.specs.declared.regs.RegFile.{RegFile}
-use Rattle.state.specs.declared.memory.Region.{Region}
-use Rattle.state.specs.declared.memory.Region.TheVariants.{Part, Outside}
 use Rattle.machine.specs.Machine.{Env, Machine, bare}
 use Rattle.machine.specs.Rules.{Rule, need}
 use Rattle.machine.specs.StorageRules.{loading, storing, access_of}
@@ -21,6 +18,7 @@ use Rattle.machine.specs.declared.action.Access.TheVariants.{SLoad, SStore}
 use Rattle.machine.specs.declared.run.Run.{Run}
 use Rattle.machine.specs.declared.turn.Turn.{Turn}
 use Rattle.ops_storage.specs.Answered.{key_register}
+use Rattle.state.specs.declared.fault.Fault.TheVariants.{BadMemory}
 
 -- an access once its key is known
 abbrev keyed : Env → Access → RegFile → ℕ → Machine → Rule
@@ -46,25 +44,22 @@ module _ (e : Env) (s : List ℕ) (d : ℕ) (f : RegFile) (r : Run) (b : Bufs) (
       go (SLoad d a) = refl
       go (SStore a b) = refl
 
-  module _ (a offset : ℕ) (qa : a ≡ key_register o) (q : offset ≡ reg f a) (x : Region) (h : x ≡ region_of (length b.memory) offset 32) (u : Bufs) (t : Turn) where
-    placed : x ≡ region_of (length b.memory) place 32
-    placed = h ∙ ap (λ (z : ℕ). region_of (length b.memory) z 32) (q ∙ ap (reg f) qa)
+  module _ (a offset : ℕ) (qa : a ≡ key_register o) (q : offset ≡ reg f a) (u : Bufs) (t : Turn) where
+    placed : offset ≡ place
+    placed = q ∙ ap (reg f) qa
 
-    pub key_outside : x ≡ Outside → t ≡ stops r 6 → Does e s d (access_of e o) r f b u t
-    key_outside k i = λ sixteen so. rw (access_is, i) (need_stops 6 (omega arith) (missed (length b.memory) place 32 x placed k))
+    pub key_outside : inside (length b.memory) offset 32 ≡ false → t ≡ stops r BadMemory → Does e s d (access_of e o) r f b u t
+    key_outside h i = λ sixteen so. rw (access_is, i) (need_stops BadMemory 6 refl (omega arith) (rw placed at h))
 
-    module _ (at end : ℕ) (k : x ≡ Part at end) where
-      abbrev key : ℕ
-      key = num (take (end - at) (drop at b.memory))
-
-      key_inside : Does e s d (keyed e o f key) r f b u t → Does e s d (access_of e o) r f b u t
+    module _ (key : List ℕ) (h : inside (length b.memory) offset 32 ≡ true) (k : key ≡ take 32 (drop offset b.memory)) where
+      key_inside : Does e s d (keyed e o f (num key)) r f b u t → Does e s d (access_of e o) r f b u t
       key_inside i =
           λ sixteen so. rw access_is
-          (need_on 6 (found (length b.memory) place 32 x placed at end k).within
-          (subst (λ (y : ℕ). Played e s d f r.meter.used r.fetches (keyed e o f y (bare (machine_of s r f b))) t u) (ap num (part_is b.memory place 32 x placed at end k)) (i sixteen so)))
+          (need_on 6 (rw placed at h)
+          (subst (λ (y : ℕ). Played e s d f r.meter.used r.fetches (keyed e o f y (bare (machine_of s r f b))) t u) (ap num (rw placed at k)) (i sixteen so)))
 
-      pub load_inside : (to c : ℕ) → o ≡ SLoad to c → Does e s d (loading e to key) r f b u t → Does e s d (access_of e o) r f b u t
-      load_inside to c p i = key_inside (subst (λ (z : Access). Does e s d (keyed e z f key) r f b u t) (sym p) i)
+      pub load_inside : (to c : ℕ) → o ≡ SLoad to c → Does e s d (loading e to (num key)) r f b u t → Does e s d (access_of e o) r f b u t
+      load_inside to c p i = key_inside (subst (λ (z : Access). Does e s d (keyed e z f (num key)) r f b u t) (sym p) i)
 
-      pub store_inside : (c w v : ℕ) → o ≡ SStore c w → v ≡ reg f w → Does e s d (storing e key v) r f b u t → Does e s d (access_of e o) r f b u t
-      store_inside c w v p y i = key_inside (subst (λ (z : Access). Does e s d (keyed e z f key) r f b u t) (sym p) (rw (← y) i))
+      pub store_inside : (c w v : ℕ) → o ≡ SStore c w → v ≡ reg f w → Does e s d (storing e (num key) v) r f b u t → Does e s d (access_of e o) r f b u t
+      store_inside c w v p y i = key_inside (subst (λ (z : Access). Does e s d (keyed e z f (num key)) r f b u t) (sym p) (rw (← y) i))

@@ -1,5 +1,5 @@
 -- Each way out of a store is what the rule comes to. Assumes nothing.
-use Rattle.std.specs.Prelude.{◌≡◌, Bool, true, false, List, ℕ, ◌+◌, length}
+use Rattle.std.specs.Prelude.{◌≡◌, Bool, true, false, List, ℕ, ◌+◌, length, Option, Some, None, refl}
 use Rattle.std.proofs.Math.Path.{ap}
 use Rattle.std.proofs.Common.{◌∙◌, arith}
 use Rattle.state.specs.declared.regs.RegFile.{RegFile}
@@ -23,10 +23,9 @@ use Rattle.machine.specs.SoundLaws.{with_tables, tables_sound}
 use Rattle.machine.specs.Does.{paid_by, goes, stops, Played, Does}
 use Rattle.machine.proofs.TurnLaws.{need_on, need_stops, pay_on, pay_stops, goes_next, pays_on, pays_not}
 use Rattle.machine.specs.declared.run.Run.{Run}
-use Rattle.machine.specs.declared.run.Paid.{Paid}
-use Rattle.machine.specs.declared.run.Paid.TheVariants as paid
 use Rattle.machine.specs.declared.turn.Turn.{Turn}
 use Rattle.ops_storage.specs.ConditionLaws.{right_denied, right_given, room_is}
+use Rattle.state.specs.declared.fault.Fault.TheVariants.{NoRoom, OutOfMeter, UndeclaredSlot}
 
 module _ (e : Env) (s : List ℕ) (d : ℕ) (f : RegFile) (l : TableRows) (g : Given) (r : Run) (b : Bufs) (k v : ℕ) where
   abbrev ks : known.Keys
@@ -62,11 +61,11 @@ module _ (e : Env) (s : List ℕ) (d : ℕ) (f : RegFile) (l : TableRows) (g : G
   x = key_env_of l g
 
   module _ (right : Bool) (q : right ≡ may x) where
-    pub store_denied : (a : Bufs) (t : Turn) → t ≡ stops r 12 → right ≡ false → e.keys ≡ x → Does e s d (storing e k v) r f b a t
+    pub store_denied : (a : Bufs) (t : Turn) → t ≡ stops r UndeclaredSlot → right ≡ false → e.keys ≡ x → Does e s d (storing e k v) r f b a t
     unfolding storing machine_of
     store_denied a t w o = λ ek sixteen so. rw w (right_denied ek may paying q o)
 
-    module _ (y : right ≡ true) (plan : StorePlan) (p : plan ≡ store_plan (rooms_of b.keys) x ks k v) (bill : Paid) (h : bill ≡ paid_by r plan.price) where
+    module _ (y : right ≡ true) (plan : StorePlan) (p : plan ≡ store_plan (rooms_of b.keys) x ks k v) (bill : Option Run) (h : bill ≡ paid_by r plan.price) where
       allowed : (a : Bufs) (t : Turn) → e.keys ≡ x → Played e s d f u j (paying x) t a → Played e s d f u j (storing e k v before) t a
       unfolding storing machine_of
       allowed a t ek z = right_given ek may paying q y z
@@ -82,19 +81,19 @@ module _ (e : Env) (s : List ℕ) (d : ℕ) (f : RegFile) (l : TableRows) (g : G
       unfolding store_plan
       fits_is = ap (λ (z : StorePlan). z.room) p
 
-      pub store_unpaid : (a : Bufs) (t : Turn) → t ≡ stops r 1 → bill ≡ paid.OutOfMeter → e.keys ≡ x → Does e s d (storing e k v) r f b a t
+      pub store_unpaid : (a : Bufs) (t : Turn) → t ≡ stops r OutOfMeter → bill ≡ None → e.keys ≡ x → Does e s d (storing e k v) r f b a t
       unfolding machine_of
-      store_unpaid a t w o = λ ek sixteen so. rw w (allowed a (stops r 1) ek (pay_stops (pays_not so price price_is o)))
+      store_unpaid a t w o = λ ek sixteen so. rw w (allowed a (stops r OutOfMeter) ek (pay_stops (pays_not so price price_is o)))
 
-      module _ (rest : Run) (o : bill ≡ paid.Done rest) where
+      module _ (rest : Run) (o : bill ≡ Some rest) where
         settled : (a : Bufs) (t : Turn) → e.keys ≡ x → Sound e s d r b → Played e s d f (u + price) j (keeping x) t a →
             Played e s d f u j (storing e k v before) t a
         unfolding machine_of
         settled a t ek so z = allowed a t ek (pay_on (pays_on so price price_is o).passed z)
 
-        pub store_full : (a : Bufs) (t : Turn) → t ≡ stops rest 48 → plan.room ≡ false → e.keys ≡ x → Does e s d (storing e k v) r f b a t
+        pub store_full : (a : Bufs) (t : Turn) → t ≡ stops rest NoRoom → plan.room ≡ false → e.keys ≡ x → Does e s d (storing e k v) r f b a t
         store_full a t w n =
-            λ ek sixteen so. rw w (settled a (stops rest 48) ek so (need_stops 48 (omega arith) (room_is e b (stored x ks k v) so.sized.rooms fits_is n)))
+            λ ek sixteen so. rw w (settled a (stops rest NoRoom) ek so (need_stops NoRoom 48 refl (omega arith) (room_is e b (stored x ks k v) so.sized.rooms fits_is n)))
 
         module _ (n : Counts) (uc uf up : List ℕ) (lc : length uc ≡ length b.keys.changes) (lf : length uf ≡ length b.keys.fetched) (lp : length up ≡ length b.keys.paid) (left : Leaves (stored x ks k v) n (stored_to uc uf up)) where
           same : rooms_of (stored_to uc uf up) ≡ rooms_of b.keys

@@ -16,7 +16,7 @@ use keys::look::TableRows;
 use machine::action::Access;
 use machine::run::Run;
 use machine::turn::Turn;
-use state::memory::Region;
+use state::fault::Fault;
 
 mod load;
 mod store;
@@ -58,29 +58,25 @@ pub fn access(
         writable.now paid.new log) result }
 {
     let place = state::regs::read(regs, key_register(o));
-    let region = state::memory::mem_region(memory, place, 32);
-    match region {
-        Region::Part(at, end) => {
-            let key = &memory[at..end];
-            match o {
-                Access::SLoad(d, _) => crate::load::load_key(
-                    d, run, lent, reads, writes, store, loader, changes, fetched, readable, key,
-                ),
-                Access::SStore(_, b) => crate::store::store_key(
-                    run,
-                    lent,
-                    writes,
-                    store,
-                    loader,
-                    changes,
-                    fetched,
-                    writable,
-                    paid,
-                    key,
-                    state::regs::read(regs, b),
-                ),
-            }
-        }
-        Region::Outside => machine::turn::stop(run, 6),
+    let Some(key) = state::memory::mem_key(memory, place) else {
+        return machine::turn::stop(run, Fault::BadMemory);
+    };
+    match o {
+        Access::SLoad(d, _) => crate::load::load_key(
+            d, run, lent, reads, writes, store, loader, changes, fetched, readable, key,
+        ),
+        Access::SStore(_, b) => crate::store::store_key(
+            run,
+            lent,
+            writes,
+            store,
+            loader,
+            changes,
+            fetched,
+            writable,
+            paid,
+            key,
+            state::regs::read(regs, b),
+        ),
     }
 }

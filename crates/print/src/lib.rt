@@ -22,10 +22,10 @@ pub fn front<W: Write>(out: &mut W, s: &[u8], n: usize) -> io::Result<()>
     ensures { OnOk result (Appends (W.contents out.old) (W.contents out.new)
         (if nat_le n (length s.now) then take n s.now else [])) }
 {
-    if n <= s.len() {
-        text(out, &s[..n])?;
+    match s.get(..n) {
+        Some(front) => text(out, front),
+        None => Ok(()),
     }
-    Ok(())
 }
 
 // A space and a number.
@@ -40,14 +40,14 @@ fn byte<W: Write>(out: &mut W, b: u8, hex: bool) -> io::Result<()> {
     if hex {
         write!(out, "{b:02x}")
     } else {
-        number(out, b as u64)
+        number(out, u64::from(b))
     }
 }
 
 // The first n bytes, as far as they stand.
 pub fn bytes<W: Write>(out: &mut W, s: &[u8], n: usize, hex: bool) -> io::Result<()> {
-    for b in parts::first(s, n) {
-        byte(out, *b, hex)?;
+    for &b in parts::first(s, n) {
+        byte(out, b, hex)?;
     }
     Ok(())
 }

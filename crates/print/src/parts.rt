@@ -5,18 +5,12 @@ ghost use Rattle.std.specs.Prelude.{◌≡◌, ◌-◌, length, take, drop, nat_
 pub fn between(s: &[u8], from: usize, to: usize) -> &[u8]
     ensures { result.now ≡ (if nat_lt to from || nat_lt (length s.now) to then s.now else take (to - from) (drop from s.now)) }
 {
-    if to < from {
-        return s;
-    }
-    if s.len() < to {
-        return s;
-    }
-    &s[from..to]
+    s.get(from..to).unwrap_or(s)
 }
 
 // The first n bytes; all where there are fewer.
 pub fn first(s: &[u8], n: usize) -> &[u8]
     ensures { result.now ≡ (if nat_lt (length s.now) n then s.now else take n s.now) }
 {
-    between(s, 0, n)
+    s.get(..n).unwrap_or(s)
 }

@@ -1,6 +1,5 @@
 -- Demand 3, rights: every step stores a declared slot or a key that an earlier Hash authorised for writing. Assumes nothing.
-use Rattle.std.specs.Prelude.{◌≡◌, refl, Bool, true, false, List, [], ◌∷◌, ◌++◌, ℕ, ◌≤◌, eqb}
-use Rattle.std.proofs.Math.Option.{Option, some, none}
+use Rattle.std.specs.Prelude.{◌≡◌, refl, Bool, true, false, List, [], ◌∷◌, ◌++◌, ℕ, ◌≤◌, eqb, Option, Some, None}
 use Rattle.std.proofs.Common.{arith, eqb-true}
 use Rattle.words.specs.Choice.{pick, either}
 use Rattle.words.specs.Lists.{member}
@@ -99,8 +98,8 @@ Allows e ks s = (k : ℕ) → may_store e.keys.writes s.may_write k ≡ true →
 
 grant_allows : (e : Env) (s : Keys) (ks : List ℕ) (g : Option Grant) → Allows e ks s → Allows e (writable e g ++ ks) (granted e.keys s g)
 unfolding writable granted authorised member
-grant_allows e s ks none a = a
-grant_allows e s ks (some g) a = go (member g.base e.keys.keyed_writes)
+grant_allows e s ks None a = a
+grant_allows e s ks (Some g) a = go (member g.base e.keys.keyed_writes)
   where
     go : (b : Bool) → (k : ℕ) → may_store e.keys.writes (put_if b (row g.key 0) s.may_write) k ≡ true → member k (pick b (g.key ∷ []) [] ++ ks) ≡ true
     go false k h = a k h
@@ -155,8 +154,8 @@ act_stores e m (action.Posts o) k h = either_left (has k m.keys.changes) false h
 act_stores e m (action.Hash a b c) k h = either_left (has k m.keys.changes) false (rw (granted_changes (grant_by e a b c m)) at h)
   where
     granted_changes : (g : Option Grant) → (granted e.keys m.keys g).changes ≡ m.keys.changes
-    granted_changes none = refl
-    granted_changes (some g) = refl
+    granted_changes None = refl
+    granted_changes (Some g) = refl
 act_stores e m (action.Checks o) k h = either_left (has k m.keys.changes) false h
 
 -- a key of the changes at a halt stood there before, or a step stored it

@@ -1,6 +1,5 @@
 -- What the steps of a run cost, store and authorise (document 01, What every promise has to say).
-use Rattle.std.specs.Prelude.{true, List, [], ◌∷◌, ◌++◌, ◌≡◌, ℕ, ◌+◌}
-use Rattle.std.proofs.Math.Option.{Option, some, none}
+use Rattle.std.specs.Prelude.{true, List, [], ◌∷◌, ◌++◌, ◌≡◌, ℕ, ◌+◌, Option, Some, None}
 use Rattle.words.specs.Choice.{pick}
 use Rattle.words.specs.Lists.{member}
 use Rattle.isa.specs.Table.{price_of}
@@ -48,8 +47,8 @@ stores_of t = stores_by (action_of t.instr) t.on
 
 -- a key made from a base that is declared for keyed writing
 unfoldable pub writable : Env → Option Grant → List ℕ
-writable e none = []
-writable e (some g) = pick (member g.base e.keys.keyed_writes) (g.key ∷ []) []
+writable e None = []
+writable e (Some g) = pick (member g.base e.keys.keyed_writes) (g.key ∷ []) []
 
 unfoldable pub grants_by : Env → Action → Machine → List ℕ
 grants_by e action.Halt m = []

@@ -1,21 +1,19 @@
 -- The cases that document 01 marks as proved, in one table (document 01, Cases): what is computed, and what it must give.
-use Rattle.std.specs.Prelude.{◌≡◌, refl, Bool, true, List, [], ◌∷◌, ◌++◌, ℕ, ◌-◌, ◌^◌, replicate}
-use Rattle.words.specs.Bytes.{num, num_from}
+use Rattle.std.specs.Prelude.{Bool, true, List, [], ◌∷◌, ◌++◌, ℕ, ◌-◌, ◌^◌, replicate, Result, Ok, Err}
 use Rattle.words.specs.Choice.{both}
-use Rattle.isa.specs.Table.{byte_of, row_of, op_with, op_at}
-use Rattle.isa.specs.Forms.{form_of, instr_of}
-use Rattle.isa.specs.Codec.{refusal_in, unless, operands_of, after_opcode, decode_list, decode_at}
+use Rattle.isa.specs.Table.{byte_of}
+use Rattle.isa.specs.Forms.{form_of}
+use Rattle.isa.specs.Codec.{decode_at}
 use Rattle.isa.specs.Answers.{decode_error}
 use Rattle.isa.specs.declared.instr.Instr.{Instr}
 use Rattle.isa.specs.declared.instr.Instr.TheVariants.{Add, AddW, MulHi, DivW}
-use Rattle.isa.specs.declared.codec.Decoded.{Decoded}
-use Rattle.isa.specs.declared.codec.Decoded.TheVariants.{Done, Refused}
 use Rattle.effects.specs.Targets.{same}
 use Rattle.meter.specs.Prices.{hash_price}
-use Rattle.state.specs.Alu.{alu_of}
+use Rattle.state.specs.Faults.{fault_number}
 use Rattle.state.specs.Regs.{reg, file, register_step}
 use Rattle.state.specs.Memory.{region_of, load_of}
 use Rattle.state.specs.Answers.{region_number, load_number}
+use Rattle.isa.specs.declared.codec.DecodeError.{DecodeError}
 
 -- a row: the numbers that the definitions give, and those that document 01 asks for
 pub record Case : Type 0 where
@@ -26,15 +24,15 @@ abbrev pub case : (gives must : List ℕ) → Case
 case g m = record { gives = g; must = m }
 
 -- 0, length, opcode byte, registers and number; or the refusal's number and argument
-unfoldable pub decoded : Decoded → List ℕ
-decoded (Done i n) = 0 ∷ n ∷ byte_of (form_of i).op ∷ (form_of i).regs ++ ((form_of i).number ∷ [])
-decoded (Refused x) = (decode_error x).number ∷ (decode_error x).argument ∷ []
+unfoldable pub decoded : Result (Instr × ℕ) DecodeError → List ℕ
+decoded (Ok (i, n)) = 0 ∷ n ∷ byte_of (form_of i).op ∷ (form_of i).regs ++ ((form_of i).number ∷ [])
+decoded (Err x) = (decode_error x).number ∷ (decode_error x).argument ∷ []
 
 -- an operation's fault, and registers 0 and 1 after it, from registers 2 to 5
 unfoldable pub operated_on : Instr → (r2 r3 r4 r5 : ℕ) → List ℕ
 operated_on i a b c d =
     let s = register_step i (file (0 ∷ 0 ∷ a ∷ b ∷ c ∷ d ∷ replicate 10 0)) in
-    s.fault ∷ reg s.file 0 ∷ reg s.file 1 ∷ []
+    fault_number s.fault ∷ reg s.file 0 ∷ reg s.file 1 ∷ []
 
 unfoldable pub cases : List Case
 cases =

@@ -1,8 +1,7 @@
 -- Rows counted and looked for in sorted tables. Assumes nothing.
-use Rattle.std.specs.Prelude.{◌≡◌, refl, Bool, true, false, not, List, [], ◌∷◌, ℕ, suc, ◌+◌, ◌≤◌, ◌<◌, length, eqb}
+use Rattle.std.specs.Prelude.{◌≡◌, refl, Bool, true, false, not, List, [], ◌∷◌, ℕ, suc, ◌+◌, ◌≤◌, ◌<◌, length, eqb, Some, None, is_some}
 use Rattle.std.proofs.Common.{sym, arith, zero-add, eq-eqb, ne_eqb}
-use Rattle.std.proofs.Math.Option.{some, none}
-use Rattle.words.specs.Choice.{either, bit, is_some}
+use Rattle.words.specs.Choice.{either, bit}
 use Rattle.tables.specs.Rows.{Row, Rising, insert, lookup}
 use Rattle.tables.specs.OrderLaws.{Tri, tri}
 use Rattle.tables.specs.OrderLaws.Tri.{below, same, above}
@@ -68,21 +67,21 @@ tally_insert f x (r ∷ rs) = go (tally_insert f x rs) (tri r.key x.key)
     go ih (above h e) = rw e (omega arith)
 
 -- and nothing more, where a row stood that counted as much
-pub tally_again : (f : Row → Bool) (x : Row) (rs : List Row) (u : ℕ) → lookup x.key rs ≡ some u → bit (f x) ≤ bit (f (row x.key u)) →
+pub tally_again : (f : Row → Bool) (x : Row) (rs : List Row) (u : ℕ) → lookup x.key rs ≡ Some u → bit (f x) ≤ bit (f (row x.key u)) →
     tally f (insert x rs) ≤ tally f rs
 unfolding tally insert lookup
 tally_again f x [] u l h = absurd (let z : ◌≡◌ {A = ℕ} 0 1 = cc in omega arith)
 tally_again f x (r ∷ rs) u l h = go (tally_again f x rs u) (tri r.key x.key)
   where
-    go : (lookup x.key rs ≡ some u → bit (f x) ≤ bit (f (row x.key u)) → tally f (insert x rs) ≤ tally f rs) → Tri r.key x.key →
+    go : (lookup x.key rs ≡ Some u → bit (f x) ≤ bit (f (row x.key u)) → tally f (insert x rs) ≤ tally f rs) → Tri r.key x.key →
         tally f (insert x (r ∷ rs)) ≤ tally f (r ∷ rs)
     go ih (below q e) = rw e (omega (arith, ih (rw e at l) h))
     go ih (same q e) =
-        let s : some r.value ≡ some u = rw e at l in
+        let s : Some r.value ≡ Some u = rw e at l in
         let w : u ≡ r.value = cc in
         let k : row x.key u ≡ r = λ i. record { key = sym q i; value = w i } in
         rw e (omega (arith, rw k at h))
-    go ih (above q e) = let s : none ≡ some u = rw e at l in absurd (let z : ◌≡◌ {A = ℕ} 0 1 = cc in omega arith)
+    go ih (above q e) = let s : None ≡ Some u = rw e at l in absurd (let z : ◌≡◌ {A = ℕ} 0 1 = cc in omega arith)
 
 -- a key stands at most once
 none_below : (q lo : ℕ) (rs : List Row) → q < lo → Rising lo rs → tally (λ (r : Row). eqb r.key q) rs ≡ 0

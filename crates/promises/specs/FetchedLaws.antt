@@ -1,6 +1,5 @@
 -- What a run fetched is what the loader says, so a key that it has not stored shows its starting value. Assumes nothing.
-use Rattle.std.specs.Prelude.{◌≡◌, refl, List, [], ℕ}
-use Rattle.std.proofs.Math.Option.{Option, some, none}
+use Rattle.std.specs.Prelude.{◌≡◌, refl, List, [], ℕ, Option, Some, None}
 use Rattle.std.proofs.Common.{arith}
 use Rattle.tables.specs.Rows.{Row, lookup}
 use Rattle.tables.specs.OrderLaws.{Tri, tri}
@@ -15,7 +14,7 @@ use Rattle.promises.specs.Grown.{loader_rows, start_in}
 abbrev pub Honest : KeyEnv → List Row → Type 0
 Honest e fs = (j : ℕ) → (look_in [] e.store fs e.loader j).value ≡ start_in e j
 
-pub seen_start : (e : KeyEnv) (s : Keys) (k : ℕ) → Honest e s.fetched → lookup k s.changes ≡ none → (look e s k).value ≡ start_in e k
+pub seen_start : (e : KeyEnv) (s : Keys) (k : ℕ) → Honest e s.fetched → lookup k s.changes ≡ None → (look e s k).value ≡ start_in e k
 unfolding look look_in first_of lookup
 seen_start e s k h q = rw q (h k)
 
@@ -24,13 +23,13 @@ unfolding look_in first_of from_loader lookup start_in start_of or_else or_zero 
 none_honest e j = go (lookup j e.store) e.loader
   where
     last : (o : Option ℕ) → or_zero o ≡ or_else o 0
-    last none = refl
-    last (some v) = refl
+    last None = refl
+    last (Some v) = refl
 
     go : (o : Option ℕ) (l : Option (List Row)) → (first_of o (from_loader l j)).value ≡ or_else o (or_else (lookup j (loader_rows l)) 0)
-    go (some v) l = refl
-    go none none = refl
-    go none (some ls) = last (lookup j ls)
+    go (Some v) l = refl
+    go None None = refl
+    go None (Some ls) = last (lookup j ls)
 
 -- a value that comes from the loader is the starting value
 pub fetch_honest : (e : KeyEnv) (s : Keys) (k : ℕ) → Honest e s.fetched → Honest e (fetched_with (look e s k) k s.fetched)
@@ -39,11 +38,11 @@ fetch_honest e s k h j = go (lookup k s.changes) (lookup k e.store) (lookup k s.
   where
     go : (oc os of : Option ℕ) (ol : Option (List Row)) → lookup k s.changes ≡ oc → lookup k e.store ≡ os → lookup k s.fetched ≡ of → e.loader ≡ ol
         → (look_in [] e.store (fetched_with (look e s k) k s.fetched) e.loader j).value ≡ start_in e j
-    go (some v) os of ol ec es ef el = rw ec (h j)
-    go none (some v) of ol ec es ef el = rw (ec, es) (h j)
-    go none none (some v) ol ec es ef el = rw (ec, es, ef) (h j)
-    go none none none none ec es ef el = rw (ec, es, ef, el) (rw el at (h j))
-    go none none none (some ls) ec es ef el = new (tri k j)
+    go (Some v) os of ol ec es ef el = rw ec (h j)
+    go None (Some v) of ol ec es ef el = rw (ec, es) (h j)
+    go None None (Some v) ol ec es ef el = rw (ec, es, ef) (h j)
+    go None None None None ec es ef el = rw (ec, es, ef, el) (rw el at (h j))
+    go None None None (Some ls) ec es ef el = new (tri k j)
       where
         other : (k ≡ j → ⊥) → (look_in [] e.store (fetched_with (look e s k) k s.fetched) e.loader j).value ≡ start_in e j
         other apart = rw (ec, es, ef, el, lookup_insert_other j (row k (or_zero (lookup k ls))) s.fetched apart) (rw el at (h j))

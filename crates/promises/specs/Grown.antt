@@ -1,6 +1,5 @@
 -- Keys whose starting value is zero and whose end value is not (demand 3, growth).
-use Rattle.std.specs.Prelude.{Bool, not, List, [], ◌∷◌, ℕ, ◌+◌, eqb}
-use Rattle.std.proofs.Math.Option.{Option, some, none}
+use Rattle.std.specs.Prelude.{Bool, not, List, [], ◌∷◌, ℕ, ◌+◌, eqb, Option, Some, None}
 use Rattle.words.specs.Choice.{both, bit}
 use Rattle.tables.specs.Rows.{Row}
 use Rattle.keys.specs.Known.{KeyEnv}
@@ -8,8 +7,8 @@ use Rattle.changes.specs.ChangeList.{start_of}
 
 -- an absent loader has no rows
 unfoldable pub loader_rows : Option (List Row) → List Row
-loader_rows none = []
-loader_rows (some rs) = rs
+loader_rows None = []
+loader_rows (Some rs) = rs
 
 -- the store's value, else the loader's, else 0
 unfoldable pub start_in : KeyEnv → ℕ → ℕ

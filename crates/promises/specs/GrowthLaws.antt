@@ -1,9 +1,8 @@
 -- Storing keeps to it that at most 8 keys that grew did not pay as fresh. Assumes nothing.
-use Rattle.std.specs.Prelude.{◌≡◌, Bool, not, List, ℕ, ◌≤◌, ◌<◌, length, leb, eqb}
+use Rattle.std.specs.Prelude.{◌≡◌, Bool, not, List, ℕ, ◌≤◌, ◌<◌, length, leb, eqb, Option, Some, None}
 use Rattle.std.proofs.Math.Path.{refl}
 use Rattle.std.proofs.Common.{◌∙◌, arith}
 use Rattle.std.proofs.Math.Bool.{true, false}
-use Rattle.std.proofs.Math.Option.{Option, some, none}
 use borrow.Author.Tests.{eq-eqb, eqb-true, leb-false, not-true}
 use Rattle.words.specs.Choice.{both, either, bit}
 use Rattle.tables.specs.Rows.{Row, insert, lookup}
@@ -61,7 +60,7 @@ module _ (e : KeyEnv) (k v : ℕ) (s : Keys) where
   few_tally : (f : Row → Bool) → length s.changes < 8 → tally f (insert (row k v) s.changes) ≤ 8
   few_tally f h = omega (arith, tally_length f (insert (row k v) s.changes), length_more (row k v) s.changes)
 
-  seen_stored : (u : ℕ) → lookup k s.changes ≡ some u → (look e s k).value ≡ u
+  seen_stored : (u : ℕ) → lookup k s.changes ≡ Some u → (look e s k).value ≡ u
   unfolding look look_in first_of
   seen_stored u q = rw q
 
@@ -70,7 +69,7 @@ module _ (e : KeyEnv) (k v : ℕ) (s : Keys) where
       → tally (unpaid e s.paid) (insert (row k v) s.changes) ≤ 8
   not_fresh fr h f = go (unpaid e s.paid (row k v)) refl
     where
-      old : (u : ℕ) → lookup k s.changes ≡ some u → unpaid e s.paid (row k v) ≡ true → (b : Bool) → eqb u 0 ≡ b →
+      old : (u : ℕ) → lookup k s.changes ≡ Some u → unpaid e s.paid (row k v) ≡ true → (b : Bool) → eqb u 0 ≡ b →
           tally (unpaid e s.paid) (insert (row k v) s.changes) ≤ 8
       old u q t true z =
           let (a, n, p) = unpaid_is e s.paid k v t in
@@ -81,10 +80,10 @@ module _ (e : KeyEnv) (k v : ℕ) (s : Keys) where
           omega (arith, tally_again (unpaid e s.paid) (row k v) s.changes u q (rw (t, w) (omega arith)))
 
       at : (o : Option ℕ) → lookup k s.changes ≡ o → unpaid e s.paid (row k v) ≡ true → tally (unpaid e s.paid) (insert (row k v) s.changes) ≤ 8
-      at none q t =
+      at None q t =
           let (a, n, p) = unpaid_is e s.paid k v t in
           few_tally (unpaid e s.paid) (few fr n (seen_start e s k h q ∙ a) p)
-      at (some u) q t = old u q t (eqb u 0) refl
+      at (Some u) q t = old u q t (eqb u 0) refl
 
       go : (b : Bool) → unpaid e s.paid (row k v) ≡ b → tally (unpaid e s.paid) (insert (row k v) s.changes) ≤ 8
       go true t = at (lookup k s.changes) refl t

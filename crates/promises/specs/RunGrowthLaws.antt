@@ -1,8 +1,7 @@
 -- Demand 3, growth: the keys that started as zero and are not zero at a halt number at most 8, and one for each 227000 used. Assumes nothing.
-use Rattle.std.specs.Prelude.{◌≡◌, Bool, not, List, ℕ, ◌+◌, ◌-◌, ◌*◌, ◌/◌, ◌≤◌, length}
+use Rattle.std.specs.Prelude.{◌≡◌, Bool, not, List, ℕ, ◌+◌, ◌-◌, ◌*◌, ◌/◌, ◌≤◌, length, Option, Some, None}
 use Rattle.std.proofs.Math.Path.{refl}
 use Rattle.std.proofs.Math.Bool.{true, false}
-use Rattle.std.proofs.Math.Option.{Option, some, none}
 use native.Mathlib.Omega.{arith}
 use Rattle.words.specs.Choice.{both, bit}
 use Rattle.tables.specs.Rows.{Row, Rising}
@@ -75,8 +74,8 @@ module _ (d : ℕ) (e : known.KeyEnv) where
 
     grant_grows : (o : Option Grant) → Growth d e (granted e s o) u
     unfolding granted authorised
-    grant_grows none = g
-    grant_grows (some x) = record { free = g.free; charged = g.charged; honest = g.honest; rising = g.rising }
+    grant_grows None = g
+    grant_grows (Some x) = record { free = g.free; charged = g.charged; honest = g.honest; rising = g.rising }
 
   -- what it says of the keys that grew
   pub grown_paid : (s : Keys) (u : ℕ) → Growth d e s u → tally (grew (start_in e)) s.changes ≤ 8 + (u - d) / 227000

@@ -2,10 +2,10 @@
 // A record is an opcode (1 byte) and four words: the operands, or the number and the divisor, the high word first.
 #![tactic(auto)]
 
-use isa::codec::Decoded;
-use state::regs::RegFile;
+use state::regs::{RegFile, Stepped};
 use std::io;
 use std::io::{BufWriter, Write};
+use words::refusal::Refusal;
 
 // The operation on registers 0 to 5: r1 and r2 hold the operands; or r3 and r2 the number, r5 and r4 the divisor.
 fn operands(a: u64, b: u64, c: u64, d: u64) -> RegFile {
@@ -19,15 +19,15 @@ fn operands(a: u64, b: u64, c: u64, d: u64) -> RegFile {
 
 // The fault, the target's word, and the upper word of an operation of seven bytes, which has two targets.
 fn outcome<W: Write>(out: &mut W, f: RegFile, code: &[u8; 7]) -> io::Result<()> {
-    let Decoded::Done(i, n) = isa::codec::decode(code, 0) else {
+    let Ok((i, n)) = isa::codec::decode(code, 0) else {
         return Ok(());
     };
-    let s = f.step(i);
-    print::number(out, s.fault)?;
-    if s.fault != 0 {
+    let Stepped { file, fault } = f.step(i);
+    if let Some(fault) = fault {
+        print::number(out, Refusal::from(fault).number)?;
         return print::text(out, b" 0 0");
     }
-    let file = s.file;
+    print::text(out, b" 0")?;
     print::number(out, file.reg(0))?;
     if n == 7 {
         print::number(out, file.reg(1))
@@ -48,15 +48,12 @@ fn line<W: Write>(out: &mut W, op: u8, a: u64, b: u64, c: u64, d: u64) -> io::Re
 }
 
 fn lines<W: Write>(out: &mut W, input: &[u8]) -> io::Result<()> {
-    let mut at = 0;
-    while 33 <= input.len() - at {
-        let op = input[at];
-        let a = words::bytes::read(input, at + 1, 8);
-        let b = words::bytes::read(input, at + 9, 8);
-        let c = words::bytes::read(input, at + 17, 8);
-        let d = words::bytes::read(input, at + 25, 8);
-        line(out, op, a, b, c, d)?;
-        at += 33;
+    for record in input.as_chunks::<33>().0 {
+        let a = words::bytes::read(record, 1, 8);
+        let b = words::bytes::read(record, 9, 8);
+        let c = words::bytes::read(record, 17, 8);
+        let d = words::bytes::read(record, 25, 8);
+        line(out, record[0], a, b, c, d)?;
     }
     Ok(())
 }

@@ -4,33 +4,27 @@
 
 ghost use Rattle.std.specs.Prelude.{◌≤◌, length};
 
-use isa::instr::Instr;
-use isa::opcode::{OpByte, OpCode};
+use isa::instr::{Instr, branch, jump, plain, with_one, with_six, with_three, with_two};
+use isa::opcode::OpCode;
+use state::bench::bench_local;
 use state::regs::RegFile;
 use std::io;
 use std::io::{BufWriter, Write};
+use words::refusal::Refusal;
 
 fn instruction(op: OpCode, s: &[u8]) -> Instr
     requires { 14 ≤ length s.now }
 {
-    let n = op.registers();
-    let w = op.wide();
     let r0 = s[0];
-    match w {
-        0 => match n {
-            0 => isa::instr::plain(op),
-            1 => isa::instr::with_one(op, r0),
-            2 => isa::instr::with_two(op, r0, s[1]),
-            3 => isa::instr::with_three(op, r0, s[1], s[2]),
-            _ => isa::instr::with_six(op, r0, s[1], s[2], s[3], s[4], s[5]),
-        },
-        2 => Instr::Ldc { d: r0, idx: 0 },
-        4 => {
-            if n == 0 {
-                return isa::instr::jump(op, 0);
-            }
-            isa::instr::branch(op, r0, 0)
-        }
+    match (op.wide(), op.registers()) {
+        (0, 0) => plain(op),
+        (0, 1) => with_one(op, r0),
+        (0, 2) => with_two(op, r0, s[1]),
+        (0, 3) => with_three(op, r0, s[1], s[2]),
+        (0, _) => with_six(op, r0, s[1], s[2], s[3], s[4], s[5]),
+        (2, _) => Instr::Ldc { d: r0, idx: 0 },
+        (4, 0) => jump(op, 0),
+        (4, _) => branch(op, r0, 0),
         _ => Instr::Ldi {
             d: r0,
             imm: words::bytes::read(s, 6, 8),
@@ -39,8 +33,8 @@ fn instruction(op: OpCode, s: &[u8]) -> Instr
 }
 
 fn registers<W: Write>(out: &mut W, file: RegFile) -> io::Result<()> {
-    for i in 0..16 {
-        print::number(out, file.reg(i))?;
+    for &r in &file.r {
+        print::number(out, r)?;
     }
     Ok(())
 }
@@ -48,27 +42,24 @@ fn registers<W: Write>(out: &mut W, file: RegFile) -> io::Result<()> {
 fn step<W: Write>(out: &mut W, file: RegFile, opcode: u8, s: &[u8]) -> io::Result<RegFile>
     requires { 14 ≤ length s.now }
 {
-    let OpByte::Known(op) = OpCode::from_byte(opcode) else {
+    let Some(op) = OpCode::from_byte(opcode) else {
         return Ok(file);
     };
-    let i = instruction(op, s);
-    let done = state::bench::bench_local(file, i);
+    let done = bench_local(file, instruction(op, s));
     write!(out, "{opcode}")?;
     print::bytes(out, s, 6, false)?;
     print::number(out, words::bytes::read(s, 6, 8))?;
     print::text(out, b":")?;
-    print::number(out, done.fault)?;
+    print::number(out, done.fault.map_or(0, |f| Refusal::from(f).number))?;
     registers(out, done.file)?;
     print::text(out, b"\n")?;
     Ok(done.file)
 }
 
 fn lines<W: Write>(out: &mut W, input: &[u8]) -> io::Result<()> {
-    let mut at = 0;
     let mut file = RegFile::new();
-    while 15 <= input.len() - at {
-        file = step(out, file, input[at], &input[at + 1..at + 15])?;
-        at += 15;
+    for record in input.as_chunks::<15>().0 {
+        file = step(out, file, record[0], &record[1..])?;
     }
     Ok(())
 }

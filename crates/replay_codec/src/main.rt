@@ -2,8 +2,8 @@
 // A record is a place (8 bytes), a count (1 byte) and that many bytes of code.
 #![tactic(auto)]
 
-use isa::codec::{DecodeError, Decoded, Encoded};
-use isa::instr::Instr;
+use isa::codec::{DecodeError, decode, encode};
+use isa::instr::{Instr, Parts};
 use isa::opcode::OpCode;
 use std::io;
 use std::io::{BufWriter, Write};
@@ -11,14 +11,11 @@ use words::refusal::Refusal;
 
 // The opcode's byte, the registers, and the number if there is one.
 fn fields<W: Write>(out: &mut W, i: Instr) -> io::Result<()> {
-    let p = i.parts_of();
-    let op = p.0;
-    let r = p.1;
-    let n = op.registers();
+    let Parts(op, r, number) = i.parts_of();
     print::number(out, op.byte() as u64)?;
-    print::bytes(out, &r, n, false)?;
-    if 0 < op.wide() {
-        print::number(out, p.2)?;
+    print::bytes(out, &r, op.registers(), false)?;
+    if op.wide() > 0 {
+        print::number(out, number)?;
     }
     Ok(())
 }
@@ -31,23 +28,22 @@ fn numbers<W: Write>(out: &mut W, why: Refusal) -> io::Result<()> {
 
 // What encode answers when the buffer is a byte short of n.
 fn shortened<W: Write>(out: &mut W, i: Instr, buffer: &mut [u8], n: usize) -> io::Result<()> {
-    if n == 0 {
+    let Some(k) = n.checked_sub(1) else {
         return Ok(());
-    }
-    let k = n - 1;
-    if buffer.len() < k {
+    };
+    let Some(short) = buffer.get_mut(..k) else {
         return Ok(());
-    }
-    if let Encoded::Refused(e) = isa::codec::encode(i, &mut buffer[..k]) {
+    };
+    if let Err(e) = encode(i, short) {
         print::text(out, b" short")?;
-        numbers(out, e.refusal())?;
+        numbers(out, Refusal::from(e))?;
     }
     Ok(())
 }
 
 fn encoded<W: Write>(out: &mut W, i: Instr) -> io::Result<()> {
     let mut buffer = [0u8; OpCode::MAX_LENGTH];
-    if let Encoded::Done(n) = isa::codec::encode(i, &mut buffer) {
+    if let Ok(n) = encode(i, &mut buffer) {
         print::bytes(out, &buffer, n, true)?;
         shortened(out, i, &mut buffer, n)?;
     }
@@ -56,42 +52,39 @@ fn encoded<W: Write>(out: &mut W, i: Instr) -> io::Result<()> {
 
 fn refused<W: Write>(out: &mut W, e: DecodeError) -> io::Result<()> {
     print::text(out, b"no")?;
-    numbers(out, e.refusal())
+    numbers(out, Refusal::from(e))
 }
 
 fn line<W: Write>(out: &mut W, code: &[u8], place: usize) -> io::Result<()> {
-    if code.len() == 0 {
+    if code.is_empty() {
         print::text(out, b"-")?;
     }
     print::bytes(out, code, code.len(), true)?;
     print::text(out, b" @")?;
     print::number(out, place as u64)?;
     print::text(out, b": ")?;
-    match isa::codec::decode(code, place) {
-        Decoded::Done(i, n) => {
+    match decode(code, place) {
+        Ok((i, n)) => {
             print::text(out, b"ok")?;
             print::number(out, n as u64)?;
             fields(out, i)?;
             print::text(out, b" = ")?;
             encoded(out, i)?;
         }
-        Decoded::Refused(e) => refused(out, e)?,
+        Err(e) => refused(out, e)?,
     }
     print::text(out, b"\n")
 }
 
 fn lines<W: Write>(out: &mut W, input: &[u8]) -> io::Result<()> {
-    let mut at = 0;
-    while 9 <= input.len() - at {
-        let place = words::bytes::read(input, at, 8) as usize;
-        let from = at + 9;
-        let n = input[at + 8] as usize;
-        if input.len() - from < n {
+    let mut rest = input;
+    while let Some((head, tail)) = rest.split_first_chunk::<9>() {
+        let place = words::bytes::read(head, 0, 8) as usize;
+        let Some((code, next)) = tail.split_at_checked(head[8] as usize) else {
             break;
-        }
-        let end = from + n;
-        line(out, &input[from..end], place)?;
-        at = end;
+        };
+        line(out, code, place)?;
+        rest = next;
     }
     Ok(())
 }

@@ -1,4 +1,2 @@
 -- what the code claims
 pub mod Sound
--- laws
-pub mod StepLaws

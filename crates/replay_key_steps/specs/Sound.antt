@@ -1,20 +1,19 @@
--- What a step asks of the tables that it is lent, and of the working tables of which it sees only some.
-use Rattle.std.specs.Prelude.{List, ℕ, Result, MatchResult}
+-- What a step asks of the tables that it is lent, and keeps true of those that it writes.
+use Rattle.std.specs.Prelude.{List, ℕ}
 use Rattle.tables.specs.Table.{Table}
-use Rattle.keys.specs.Lent.{KeyBufs}
+use Rattle.keys.specs.Lent.{KeyBufs, key_bufs}
 use Rattle.keys.specs.Sound.{Good, Loader}
-use Rattle.keys.specs.declared.counts.Counts.{Counts}
 use Rattle.keys.specs.declared.look.TableRows.{TableRows}
+use Rattle.replay_key_steps.specs.declared.lent.Tables.{Tables}
 
 -- the store is sorted, and so is the loader if there is one
 abbrev pub Lends : TableRows → (store loader : List ℕ) → Type 0
 Lends l store loader = Table 40 l.store store × Loader l.has_loader l.loader loader
 
--- what holds of the counts that a step tells; where the telling fails, of the counts that it would have told
-abbrev pub Leaves : {E : Type 0} → Result Counts E → (Counts → Type 0) → Type 0
-Leaves r P = MatchResult r P (λ e. (d : Counts) × P d)
+-- the tables' bytes
+abbrev pub bufs : Tables → KeyBufs
+bufs t = key_bufs t.changes t.fetched t.readable t.writable t.paid
 
--- with some tables in the places that a step does not see, all are good
-pub record Among (c : Counts) (seen : KeyBufs → KeyBufs) : Type 0 where
-  pub unseen : KeyBufs
-  pub good : Good c (seen unseen)
+-- every table is good, with the counts beside it
+abbrev pub Sound : Tables → Type 0
+Sound t = Good t.counts (bufs t)

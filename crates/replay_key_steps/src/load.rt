@@ -1,46 +1,53 @@
 // Loading a key.
-ghost use Rattle.std.specs.Prelude.{◌≡◌, length};
-ghost use Rattle.keys.specs.Lent.{KeyBufs, key_bufs};
-ghost use Rattle.keys.specs.Sound.{Good};
-ghost use Rattle.replay_key_steps.specs.Sound.{Lends, Among, Leaves};
+ghost use Rattle.std.specs.Prelude.{◌≡◌};
+ghost use Rattle.replay_key_steps.specs.Sound.{Lends, Sound};
 
-use keys::counts::Counts;
-use keys::look::{TableRows, look_up};
+use crate::lent::{Lent, Tables};
+use keys::look::{loader_table, look_up};
 use std::io;
 use std::io::Write;
+use tables::rows::Rows;
 
 // Its value and how many values were fetched so far, or the refusal.
 pub(crate) fn load<W: Write>(
     out: &mut W,
-    n: TableRows,
-    c: Counts,
-    slots: &[u8],
-    store: &[u8],
-    loader: &[u8],
-    changes: &[u8],
-    fetched: &mut [u8],
-    readable: &[u8],
-    step: &[u8],
-) -> io::Result<Counts>
-    requires { Lends n store.now loader.now ×
-        Among c (λ b. key_bufs changes.now fetched.old readable.now b.may_write b.paid) × (length slots.now ≡ 384) × (length step.now ≡ 41) }
-    ensures { Leaves result (λ d. (b : KeyBufs) →
-        Good c (key_bufs changes.now fetched.old readable.now b.may_write b.paid) →
-        Good d (key_bufs changes.now fetched.new readable.now b.may_write b.paid)) }
+    lent: Lent,
+    t: &mut Tables,
+    step: &[u8; 41],
+) -> io::Result<()>
+    requires { Lends lent.rows lent.store.now lent.loader.now × Sound t.old }
+    ensures sound { Sound t.new }
+    ensures kept { t.new ≡ record t.old { counts = t.new.counts; fetched = t.new.fetched } }
 {
-    let k = &step[1..33];
+    let c = t.counts;
+    let k = step[1..33].as_array::<32>().unwrap();
+    let slots = lent.slots;
     let reads = &slots[..96];
     let writes = &slots[96..192];
-    if !keys::rights::may_load(reads, writes, readable, c.reads, k) {
-        print::text(out, b"no 12")?;
-        return Ok(c);
+    let readable: Rows<32> = Rows {
+        bytes: &t.readable,
+        count: c.reads,
+    };
+    if !keys::rights::may_load(reads, writes, readable, k) {
+        return print::text(out, b"no 12");
     }
-    let seen = look_up(n, store, loader, changes, c.changes, fetched, c.fetched, k);
-    if !keys::load::load_room(c, fetched, k, seen) {
-        print::text(out, b"no 48")?;
-        return Ok(c);
+    let store: Rows<40> = Rows {
+        bytes: lent.store,
+        count: lent.rows.store,
+    };
+    let loader = loader_table(lent.rows, lent.loader);
+    let changes: Rows<40> = Rows {
+        bytes: &t.changes,
+        count: c.changes,
+    };
+    let fetched: Rows<40> = Rows {
+        bytes: &t.fetched,
+        count: c.fetched,
+    };
+    let seen = look_up(store, loader, changes, fetched, k);
+    if !keys::load::load_room(c, &t.fetched, k, seen) {
+        return print::text(out, b"no 48");
     }
-    let d = keys::load::load(c, fetched, k, seen);
-    crate::tell::loaded(out, seen, d)?;
-    Ok(d)
+    t.counts = keys::load::load(c, &mut t.fetched, k, seen);
+    crate::tell::loaded(out, seen, t.counts)
 }

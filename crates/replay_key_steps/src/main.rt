@@ -3,7 +3,9 @@
 #![tactic(auto)]
 
 mod authorise;
+mod lent;
 mod load;
+mod operation;
 mod run;
 mod steps;
 mod store;
@@ -14,6 +16,7 @@ use std::io::{BufWriter, Write};
 
 fn runs<W: Write>(out: &mut W, input: &[u8]) -> io::Result<()> {
     let mut at = 0;
+    // No plainer: how long a run is stands in its own head, so no chunks of one length lie there.
     while 4 <= input.len() - at {
         let n = words::bytes::read(input, at, 4) as usize;
         let from = at + 4;

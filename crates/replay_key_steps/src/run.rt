@@ -1,61 +1,55 @@
 // One run: whether there is a loader (1 byte), how many rows store and loader have (1 each), four lists of twelve slots (96 each:
 // reads, writes, keyed reads, keyed writes), the store's rows, the loader's rows (40 each), then records.
-ghost use Rattle.std.specs.Prelude.{◌≡◌, ◌+◌, ◌≤◌, length};
+ghost use Rattle.std.specs.Prelude.{IfSome};
+ghost use Rattle.replay_key_steps.specs.Sound.{Lends};
 
+use crate::lent::Lent;
 use keys::look::TableRows;
 use std::io;
 use std::io::Write;
-use tables::check::Checked;
+
+// The rows of store and loader, if their keys rise.
+fn rows_of(has_loader: bool, store: &[u8], loader: &[u8]) -> Option<TableRows>
+    ensures { IfSome result (λ n. Lends n store.now loader.now) }
+{
+    Some(TableRows {
+        store: tables::check::check(store, 40)?,
+        has_loader,
+        loader: tables::check::check_if(has_loader, loader, 40)?,
+    })
+}
 
 fn checked<W: Write>(
     out: &mut W,
     has_loader: bool,
-    slots: &[u8],
+    slots: &[u8; 384],
     store: &[u8],
     loader: &[u8],
     records: &[u8],
-) -> io::Result<()>
-    requires { length slots.now ≡ 384 }
-{
-    match tables::check::check(store, 40) {
-        Checked::Bad => print::text(out, b"no 45\n"),
-        Checked::Whole(ns) => match tables::check::check_if(has_loader, loader, 40) {
-            Checked::Bad => print::text(out, b"no 45\n"),
-            Checked::Whole(nl) => {
-                let n = TableRows {
-                    store: ns,
-                    has_loader: has_loader,
-                    loader: nl,
-                };
-                crate::steps::steps(out, n, slots, store, loader, records)
-            }
-        },
-    }
+) -> io::Result<()> {
+    let Some(rows) = rows_of(has_loader, store, loader) else {
+        return print::text(out, b"no 45\n");
+    };
+    let lent = Lent {
+        rows,
+        slots,
+        store,
+        loader,
+    };
+    crate::steps::steps(out, lent, records)
 }
 
-// Where rows end that begin at a place.
-fn rows_end(from: usize, rows: u8) -> usize
-    requires { from ≤ 16384 }
-    ensures { (from ≤ result) × (result ≤ from + 10200) }
-{
-    from + rows as usize * 40
-}
-
+// A head of 387 bytes, then the parts as long as it says.
 pub fn run<W: Write>(out: &mut W, part: &[u8]) -> io::Result<()> {
-    if part.len() < 387 {
+    let Some((head, rest)) = part.split_first_chunk::<387>() else {
         return Ok(());
-    }
-    let to_loader = rows_end(387, part[1]);
-    let to_records = rows_end(to_loader, part[2]);
-    if part.len() < to_records {
+    };
+    let Some((store, rest)) = rest.split_at_checked(head[1] as usize * 40) else {
         return Ok(());
-    }
-    checked(
-        out,
-        part[0] == 1,
-        &part[3..387],
-        &part[387..to_loader],
-        &part[to_loader..to_records],
-        &part[to_records..],
-    )
+    };
+    let Some((loader, records)) = rest.split_at_checked(head[2] as usize * 40) else {
+        return Ok(());
+    };
+    let slots = head[3..].as_array().unwrap();
+    checked(out, head[0] == 1, slots, store, loader, records)
 }

@@ -1,48 +1,56 @@
 // Storing a value at a key.
-ghost use Rattle.std.specs.Prelude.{◌≡◌, length};
-ghost use Rattle.keys.specs.Lent.{KeyBufs, key_bufs};
-ghost use Rattle.keys.specs.Sound.{Good};
-ghost use Rattle.replay_key_steps.specs.Sound.{Lends, Among, Leaves};
+ghost use Rattle.std.specs.Prelude.{◌≡◌};
+ghost use Rattle.replay_key_steps.specs.Sound.{Lends, Sound};
 
-use keys::counts::Counts;
-use keys::look::TableRows;
+use crate::lent::{Lent, Tables};
 use keys::store::plan_store;
 use std::io;
 use std::io::Write;
+use tables::rows::Rows;
 
 // The price, and how many rows the three tables have then, or the refusal.
 pub(crate) fn store<W: Write>(
     out: &mut W,
-    n: TableRows,
-    c: Counts,
-    slots: &[u8],
-    store: &[u8],
-    loader: &[u8],
-    changes: &mut [u8],
-    fetched: &mut [u8],
-    writable: &[u8],
-    paid: &mut [u8],
-    step: &[u8],
-) -> io::Result<Counts>
-    requires { Lends n store.now loader.now ×
-        Among c (λ b. key_bufs changes.old fetched.old b.may_read writable.now paid.old) × (length slots.now ≡ 384) × (length step.now ≡ 41) }
-    ensures { Leaves result (λ d. (b : KeyBufs) →
-        Good c (key_bufs changes.old fetched.old b.may_read writable.now paid.old) →
-        Good d (key_bufs changes.new fetched.new b.may_read writable.now paid.new)) }
+    lent: Lent,
+    t: &mut Tables,
+    step: &[u8; 41],
+) -> io::Result<()>
+    requires { Lends lent.rows lent.store.now lent.loader.now × Sound t.old }
+    ensures sound { Sound t.new }
+    ensures kept { t.new ≡ record t.old {
+      counts = t.new.counts;
+      changes = t.new.changes;
+      fetched = t.new.fetched;
+      paid = t.new.paid;
+    } }
 {
-    let k = &step[1..33];
+    let c = t.counts;
+    let k = step[1..33].as_array::<32>().unwrap();
     let v = words::bytes::read(step, 33, 8);
-    if !keys::rights::may_store(&slots[96..192], writable, c.writes, k) {
-        print::text(out, b"no 12")?;
-        return Ok(c);
+    let slots = lent.slots;
+    let writable: Rows<32> = Rows {
+        bytes: &t.writable,
+        count: c.writes,
+    };
+    if !keys::rights::may_store(&slots[96..192], writable, k) {
+        return print::text(out, b"no 12");
     }
-    let plan = plan_store(n, c, store, loader, changes, fetched, writable, paid, k, v);
+    let plan = plan_store(
+        lent.rows,
+        c,
+        lent.store,
+        lent.loader,
+        &t.changes,
+        &t.fetched,
+        &t.writable,
+        &t.paid,
+        k,
+        v,
+    );
     crate::tell::store_plan(out, plan)?;
     if !plan.room {
-        print::text(out, b" no 48")?;
-        return Ok(c);
+        return print::text(out, b" no 48");
     }
-    let d = keys::store::store(c, plan, changes, fetched, paid, k, v);
-    crate::tell::stored(out, d)?;
-    Ok(d)
+    t.counts = keys::store::store(c, plan, &mut t.changes, &mut t.fetched, &mut t.paid, k, v);
+    crate::tell::stored(out, t.counts)
 }

@@ -1,4 +1,5 @@
 // What is printed of plans, of what was done, and of the tables.
+use crate::lent::Tables;
 use keys::authorise::KeyPlan;
 use keys::counts::Counts;
 use keys::look::Look;
@@ -58,19 +59,11 @@ fn table<W: Write>(out: &mut W, n: usize, t: &[u8]) -> io::Result<()> {
 }
 
 // Rows and the sum of all bytes of each table.
-pub fn tables<W: Write>(
-    out: &mut W,
-    c: Counts,
-    changes: &[u8],
-    fetched: &[u8],
-    readable: &[u8],
-    writable: &[u8],
-    paid: &[u8],
-) -> io::Result<()> {
+pub fn tables<W: Write>(out: &mut W, t: &Tables) -> io::Result<()> {
     print::text(out, b"tables")?;
-    table(out, c.changes, changes)?;
-    table(out, c.fetched, fetched)?;
-    table(out, c.reads, readable)?;
-    table(out, c.writes, writable)?;
-    table(out, c.paid, paid)
+    table(out, t.counts.changes, &t.changes)?;
+    table(out, t.counts.fetched, &t.fetched)?;
+    table(out, t.counts.reads, &t.readable)?;
+    table(out, t.counts.writes, &t.writable)?;
+    table(out, t.counts.paid, &t.paid)
 }

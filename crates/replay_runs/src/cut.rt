@@ -1,53 +1,44 @@
-// A record's numbers and parts.
+// A record: a head, and parts that are as long as it says.
 use std::io;
 use std::io::Read;
 
 // The bytes before a record's parts.
 pub const HEAD: usize = 74;
 
-// Where each of them ends.
+// A record's parts, none past its end.
 #[derive(Clone, Copy)]
-pub struct Ends {
-    pub container: usize,
-    pub store: usize,
-    pub loader: usize,
-    pub replies: usize,
-    pub preload: usize,
+pub struct Parts<'a> {
+    pub container: &'a [u8],
+    pub store: &'a [u8],
+    pub loader: &'a [u8],
+    pub replies: &'a [u8],
+    pub preload: &'a [u8],
 }
 
-// The number in w bytes at a place; 0 where they do not stand.
-pub fn number(s: &[u8], at: usize, w: usize) -> u64 {
-    if 8 < w {
+// The number in four bytes of a head; 0 where they do not stand.
+pub fn number(head: &[u8; HEAD], at: usize) -> usize {
+    let Some(from) = head.get(at..) else {
         return 0;
-    }
-    if s.len() < w {
+    };
+    let Some(four) = from.first_chunk::<4>() else {
         return 0;
-    }
-    if s.len() - w < at {
-        return 0;
-    }
-    words::bytes::read(s, at, w)
+    };
+    u32::from_be_bytes(*four) as usize
 }
 
-// From a place so many bytes on, or to the end.
-fn onward(at: usize, n: u64, end: usize) -> usize {
-    if end < at {
-        return end;
-    }
-    if end - at < n as usize {
-        return end;
-    }
-    at + n as usize
+// As many bytes as are asked for, as far as they stand, and the rest.
+fn part(s: &[u8], n: usize) -> (&[u8], &[u8]) {
+    s.split_at(n.min(s.len()))
 }
 
-// Where a record's parts end, none past the end of the bytes.
-pub fn ends_of(r: &[u8]) -> Ends {
-    let container = onward(HEAD, number(r, 50, 4), r.len());
-    let store = onward(container, number(r, 54, 4), r.len());
-    let loader = onward(store, number(r, 58, 4), r.len());
-    let replies = onward(loader, number(r, 62, 4), r.len());
-    let preload = onward(replies, number(r, 66, 4), r.len());
-    Ends {
+// The parts in the bytes behind a head.
+pub fn split<'a>(head: &[u8; HEAD], behind: &'a [u8]) -> Parts<'a> {
+    let (container, rest) = part(behind, number(head, 50));
+    let (store, rest) = part(rest, number(head, 54));
+    let (loader, rest) = part(rest, number(head, 58));
+    let (replies, rest) = part(rest, number(head, 62));
+    let (preload, _) = part(rest, number(head, 66));
+    Parts {
         container,
         store,
         loader,
@@ -56,22 +47,24 @@ pub fn ends_of(r: &[u8]) -> Ends {
     }
 }
 
-// Reads a record into the front of the bytes; how many it has, 0 at the input's end.
+// How many bytes a record's parts have.
+fn behind(head: &[u8; HEAD]) -> usize {
+    let mut n: usize = 0;
+    for at in [50, 54, 58, 62, 66] {
+        n = n.saturating_add(number(head, at));
+    }
+    n
+}
+
+// Reads a record into the front of the bytes, as far as it has room; how many it has, 0 at the input's end.
 pub fn read_record<R: Read>(from: &mut R, t: &mut [u8]) -> io::Result<usize> {
-    if t.len() < HEAD {
+    let Some((head, rest)) = t.split_first_chunk_mut::<HEAD>() else {
+        return Ok(0);
+    };
+    if print::input::fill(from, head)? < HEAD {
         return Ok(0);
     }
-    if print::input::fill(from, &mut t[..HEAD])? < HEAD {
-        return Ok(0);
-    }
-    let e = ends_of(t);
-    let end = e.preload;
-    if end < HEAD {
-        return Ok(0);
-    }
-    if t.len() < end {
-        return Ok(0);
-    }
-    print::input::fill(from, &mut t[HEAD..end])?;
-    Ok(end)
+    let n = behind(head).min(rest.len());
+    print::input::fill(from, &mut rest[..n])?;
+    Ok(HEAD + n)
 }

@@ -1,64 +1,50 @@
 // What a call is lent: parts of larger buffers.
 ghost use Rattle.std.specs.Prelude.{◌≡◌, length};
 
-const FILL: u8 = 165;
+pub const FILL: u8 = 165;
 
-const FILL_WORD: u64 = 0xA5A5_A5A5_A5A5_A5A5;
+pub const FILL_WORD: u64 = 0xA5A5_A5A5_A5A5_A5A5;
 
-fn fill(t: &mut [u8], end: usize) {
-    for x in t.iter_mut().take(end) {
-        *x = FILL;
-    }
+// The buffers that a call writes.
+#[derive(Drop)]
+pub struct Buffers<'a> {
+    pub memory: &'a mut [u8],
+    pub stack: &'a mut [u64],
+    pub starts: &'a mut [u8],
+    pub changes: &'a mut [u8],
+    pub fetched: &'a mut [u8],
+    pub reads: &'a mut [u8],
+    pub writes: &'a mut [u8],
+    pub fresh: &'a mut [u8],
+    pub log: &'a mut [u8],
 }
 
-fn fill_words(t: &mut [u64], end: usize) {
-    for x in t.iter_mut().take(end) {
-        *x = FILL_WORD;
-    }
-}
-
-// The first n bytes, as far as they stand, each 165, so that what a call leaves untouched shows.
-pub fn bytes(t: &mut [u8], n: u64) -> &mut [u8] {
-    let end = n as usize;
-    fill(t, end);
-    if t.len() < end {
-        return t;
-    }
-    &mut t[..end]
-}
-
-// The first n words, as bytes.
-pub fn words(t: &mut [u64], n: u64) -> &mut [u64] {
-    let end = n as usize;
-    fill_words(t, end);
-    if t.len() < end {
-        return t;
-    }
-    &mut t[..end]
+// The first n, as far as they stand, each filled, so that what a call leaves untouched shows.
+pub fn front<T: Copy>(t: &mut [T], n: usize, filler: T) -> &mut [T]
+    requires { T.is_infallible filler }
+{
+    let end = n.min(t.len());
+    let lent = &mut t[..end];
+    lent.fill(filler);
+    lent
 }
 
 // The part so many times over, as far as there is room; where it ends.
-pub fn repeat(t: &mut [u8], s: &[u8], times: u64) -> usize {
+pub fn repeat(t: &mut [u8], s: &[u8], times: usize) -> usize {
     let mut at = 0;
     for _ in 0..times {
         if t.len() - at < s.len() {
-            return at;
+            break;
         }
-        words::bytes::copy_in(t, at, s);
+        t[at..at + s.len()].copy_from_slice(s);
         at += s.len();
     }
     at
 }
 
-// An array this long is only named by its length: the prover would count its bytes one by one.
-pub fn for_replies() -> [u8; 786480]
-    ensures { 786480 ≡ length result }
+// A long array is only named by its length: the prover would count its bytes one by one.
+pub fn zeroes<const N: usize>() -> [u8; N]
+    ensures { N ≡ length result }
 {
-    [0; 786480]
-}
-
-pub fn for_log() -> [u8; 1048576]
-    ensures { 1048576 ≡ length result }
-{
-    [0; 1048576]
+    [0; N]
 }

@@ -1,6 +1,5 @@
 // What a call leaves, as text.
-ghost use Rattle.std.specs.Prelude.{◌≤◌};
-
+use crate::lent::Buffers;
 use interp::answer::Answer;
 use std::io;
 use std::io::Write;
@@ -10,31 +9,20 @@ const BASE: u64 = 1000003;
 
 const PRIME: u64 = 4294967291;
 
-fn wide(b: u8) -> u64
-    ensures { result ≤ 255 }
+fn checksum<W: Write, T: Copy>(out: &mut W, t: &[T]) -> io::Result<()>
+where
+    u64: From<T>,
 {
-    b as u64
-}
-
-fn checksum<W: Write>(out: &mut W, t: &[u8]) -> io::Result<()> {
     let mut sum: u64 = 0;
-    for b in t {
-        sum = (sum * BASE + wide(*b)) % PRIME;
-    }
-    print::number(out, sum)
-}
-
-fn checksum_words<W: Write>(out: &mut W, t: &[u64]) -> io::Result<()> {
-    let mut sum: u64 = 0;
-    for w in t {
-        sum = (sum * BASE + *w % PRIME) % PRIME;
+    for &x in t {
+        sum = (sum * BASE + u64::from(x) % PRIME) % PRIME;
     }
     print::number(out, sum)
 }
 
 fn numbers<W: Write>(out: &mut W, t: &[u64]) -> io::Result<()> {
-    for n in t {
-        print::number(out, *n)?;
+    for &n in t {
+        print::number(out, n)?;
     }
     Ok(())
 }
@@ -58,31 +46,19 @@ pub fn answer<W: Write>(out: &mut W, a: Answer) -> io::Result<()> {
     count(out, b" changes", a.changes)?;
     count(out, b" log", a.log)?;
     print::text(out, b" regs")?;
-    let file = a.regs;
-    numbers(out, &file.r)
+    numbers(out, &a.regs.r)
 }
 
-pub fn buffers<W: Write>(
-    out: &mut W,
-    memory: &[u8],
-    stack: &[u64],
-    starts: &[u8],
-    changes: &[u8],
-    fetched: &[u8],
-    reads: &[u8],
-    writes: &[u8],
-    fresh: &[u8],
-    log: &[u8],
-) -> io::Result<()> {
+pub fn buffers<W: Write>(out: &mut W, b: &Buffers) -> io::Result<()> {
     print::text(out, b" buffers")?;
-    checksum(out, memory)?;
-    checksum_words(out, stack)?;
-    checksum(out, starts)?;
-    checksum(out, changes)?;
-    checksum(out, fetched)?;
-    checksum(out, reads)?;
-    checksum(out, writes)?;
-    checksum(out, fresh)?;
-    checksum(out, log)?;
+    checksum(out, b.memory)?;
+    checksum(out, b.stack)?;
+    checksum(out, b.starts)?;
+    checksum(out, b.changes)?;
+    checksum(out, b.fetched)?;
+    checksum(out, b.reads)?;
+    checksum(out, b.writes)?;
+    checksum(out, b.fresh)?;
+    checksum(out, b.log)?;
     print::text(out, b"\n")
 }

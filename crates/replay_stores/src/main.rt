@@ -2,25 +2,33 @@
 // A record is an operation (1 byte), a key (32) and a value (8); a mint's data are both.
 #![tactic(auto)]
 
-ghost use Rattle.std.specs.Prelude.{◌≡◌, true, ◌≤◌, length};
+mod operation;
+
+ghost use Rattle.std.specs.Prelude.{◌≡◌, true, ◌≤◌};
 ghost use Rattle.tables.specs.Table.{Table};
 
-use effects::log::Grown;
+use operation::Operation;
 use std::io;
 use std::io::{BufWriter, Write};
-use tables::check::Checked;
-use tables::rows::Got;
-use tables::store::Stored;
+use tables::rows::Rows;
 
 // The selector MINT, then four zero bytes.
 const MINT: u64 = 0x4D49_4E54_0000_0000;
 
-// How many rows stand in the map and in the set, and where the log ends.
-#[derive(Clone, Copy)]
-struct Ends {
-    map: usize,
-    set: usize,
-    log: usize,
+// The kinds of effects.
+const TRANSFER: u8 = 0;
+
+const EVENT: u8 = 1;
+
+// The map and the set with how many rows each has, and the log with where it ends.
+#[derive(Drop)]
+struct Stores {
+    map: [u8; 2000],
+    pairs: usize,
+    set: [u8; 1600],
+    members: usize,
+    log: [u8; 4096],
+    end: usize,
 }
 
 // Whether n sorted rows of w bytes stand in t.
@@ -28,71 +36,52 @@ fn sorted(t: &[u8], n: usize, w: usize) -> bool
     requires { 32 ≤ w }
     ensures { result ≡ true → Table w n t.now }
 {
-    if t.len() / w < n {
-        return false;
-    }
-    let end = n * w;
-    match tables::check::check(&t[..end], w) {
-        Checked::Whole(m) => m == n,
-        Checked::Bad => false,
-    }
+    n <= t.len() / w && tables::check::check(&t[..n * w], w) == Some(n)
 }
 
-// The count after a row was put in, or the refusal.
-fn stored<W: Write>(out: &mut W, s: Stored, n: usize) -> io::Result<usize> {
-    match s {
-        Stored::Count(m) => {
-            print::text(out, b"rows")?;
-            print::number(out, m as u64)?;
-            Ok(m)
-        }
-        Stored::NoRoom => {
-            print::text(out, b"no 48")?;
-            Ok(n)
-        }
-    }
+// The new count that a step leaves, or the old one where it was refused.
+fn told<W: Write>(out: &mut W, name: &[u8], new: Option<usize>, old: usize) -> io::Result<usize> {
+    let Some(n) = new else {
+        print::text(out, b"no 48")?;
+        return Ok(old);
+    };
+    print::text(out, name)?;
+    print::number(out, n as u64)?;
+    Ok(n)
 }
 
-fn put<W: Write>(out: &mut W, t: &mut [u8], n: usize, key: &[u8], v: u64) -> io::Result<usize>
-    requires { length key.now ≡ 32 }
-{
+fn put<W: Write>(out: &mut W, t: &mut [u8], n: usize, key: &[u8; 32], v: u64) -> io::Result<usize> {
     if !sorted(t, n, 40) {
         return Ok(n);
     }
-    stored(out, tables::store::put(t, n, key, v), n)
+    told(out, b"rows", tables::store::put(t, n, key, v), n)
 }
 
-fn add<W: Write>(out: &mut W, t: &mut [u8], n: usize, key: &[u8]) -> io::Result<usize>
-    requires { length key.now ≡ 32 }
-{
+fn add<W: Write>(out: &mut W, t: &mut [u8], n: usize, key: &[u8; 32]) -> io::Result<usize> {
     if !sorted(t, n, 32) {
         return Ok(n);
     }
-    stored(out, tables::store::add(t, n, key), n)
+    told(out, b"rows", tables::store::add(t, n, key), n)
 }
 
-fn get<W: Write>(out: &mut W, t: &[u8], n: usize, key: &[u8]) -> io::Result<()>
-    requires { length key.now ≡ 32 }
-{
+fn get<W: Write>(out: &mut W, t: &[u8], n: usize, key: &[u8; 32]) -> io::Result<()> {
     if !sorted(t, n, 40) {
         return Ok(());
     }
-    match tables::rows::get(t, n, key) {
-        Got::Value(v) => {
-            print::text(out, b"value")?;
-            print::number(out, v)
-        }
-        Got::Nothing => print::text(out, b"nothing"),
-    }
+    let map: Rows<40> = Rows { bytes: t, count: n };
+    let Some(v) = map.get(key) else {
+        return print::text(out, b"nothing");
+    };
+    print::text(out, b"value")?;
+    print::number(out, v)
 }
 
-fn has<W: Write>(out: &mut W, t: &[u8], n: usize, key: &[u8]) -> io::Result<()>
-    requires { length key.now ≡ 32 }
-{
+fn has<W: Write>(out: &mut W, t: &[u8], n: usize, key: &[u8; 32]) -> io::Result<()> {
     if !sorted(t, n, 32) {
         return Ok(());
     }
-    if tables::rows::has(t, n, 32, key) {
+    let set: Rows<32> = Rows { bytes: t, count: n };
+    if set.has(key) {
         print::text(out, b"has")
     } else {
         print::text(out, b"has not")
@@ -108,23 +97,15 @@ fn append<W: Write>(
     word: u64,
     data: &[u8],
 ) -> io::Result<usize> {
-    if log.len() < end {
+    if log.len() < end || data.len() > 40 {
         return Ok(end);
     }
-    if data.len() > 40 {
-        return Ok(end);
-    }
-    match effects::log::append(log, end, kind, word, data) {
-        Grown::End(m) => {
-            print::text(out, b"end")?;
-            print::number(out, m as u64)?;
-            Ok(m)
-        }
-        Grown::NoRoom => {
-            print::text(out, b"no 48")?;
-            Ok(end)
-        }
-    }
+    told(
+        out,
+        b"end",
+        effects::log::append(log, end, kind, word, data),
+        end,
+    )
 }
 
 fn known<W: Write>(out: &mut W, log: &[u8], end: usize, kind: u8, target: &[u8]) -> io::Result<()> {
@@ -152,65 +133,44 @@ fn counts<W: Write>(out: &mut W, log: &[u8], end: usize) -> io::Result<()> {
     Ok(())
 }
 
-// The data of an effect or the bytes of a target: as many of a key's first bytes as the value's last byte says, at most 32.
-fn some_of(key: &[u8], v: u64) -> &[u8]
-    requires { length key.now ≡ 32 }
-{
-    let n = (v % 33) as usize;
-    &key[..n]
+// The data of an effect or the bytes of a target: as many of a key's first bytes as the value modulo 33.
+fn some_of(key: &[u8; 32], v: u64) -> &[u8] {
+    &key[..(v % 33) as usize]
 }
 
-fn one<W: Write>(
-    out: &mut W,
-    op: u8,
-    key: &[u8],
-    v: u64,
-    body: &[u8],
-    map: &mut [u8],
-    set: &mut [u8],
-    log: &mut [u8],
-    c: Ends,
-) -> io::Result<Ends>
-    requires { length key.now ≡ 32 }
-{
-    let mut d = c;
-    match op {
-        0 => d.map = put(out, map, c.map, key, v)?,
-        1 => get(out, map, c.map, key)?,
-        2 => d.set = add(out, set, c.set, key)?,
-        3 => has(out, set, c.set, key)?,
-        4 => d.log = append(out, log, c.log, 0, v, some_of(key, v))?,
-        5 => d.log = append(out, log, c.log, 1, v, some_of(key, v))?,
-        6 => known(out, log, c.log, 0, some_of(key, v))?,
-        7 => d.log = append(out, log, c.log, 1, MINT, body)?,
-        8 => known(out, log, c.log, 1, key)?,
-        _ => counts(out, log, c.log)?,
+fn one<W: Write>(out: &mut W, record: &[u8; 41], s: &mut Stores) -> io::Result<()> {
+    let body = &record[1..];
+    let key = record[1..33].as_array().unwrap();
+    let v = words::bytes::read(record, 33, 8);
+    match Operation::from(record[0]) {
+        Operation::Put => s.pairs = put(out, &mut s.map, s.pairs, key, v)?,
+        Operation::Get => get(out, &s.map, s.pairs, key)?,
+        Operation::Add => s.members = add(out, &mut s.set, s.members, key)?,
+        Operation::Has => has(out, &s.set, s.members, key)?,
+        Operation::Transfer => {
+            s.end = append(out, &mut s.log, s.end, TRANSFER, v, some_of(key, v))?
+        }
+        Operation::Event => s.end = append(out, &mut s.log, s.end, EVENT, v, some_of(key, v))?,
+        Operation::KnownTransfer => known(out, &s.log, s.end, TRANSFER, some_of(key, v))?,
+        Operation::Mint => s.end = append(out, &mut s.log, s.end, EVENT, MINT, body)?,
+        Operation::KnownMint => known(out, &s.log, s.end, EVENT, key)?,
+        Operation::Counts => counts(out, &s.log, s.end)?,
     }
-    Ok(d)
+    Ok(())
 }
 
 fn lines<W: Write>(out: &mut W, input: &[u8]) -> io::Result<()> {
-    let mut map = [0u8; 2000];
-    let mut set = [0u8; 1600];
-    let mut log = [0u8; 4096];
-    let mut c = Ends {
-        map: 0,
-        set: 0,
-        log: 0,
+    let mut stores = Stores {
+        map: [0; 2000],
+        pairs: 0,
+        set: [0; 1600],
+        members: 0,
+        log: [0; 4096],
+        end: 0,
     };
-    let mut at = 0;
-    while 41 <= input.len() - at {
-        let from = at + 1;
-        let end = at + 33;
-        let v = words::bytes::read(input, end, 8);
-        let key = &input[from..end];
-        let last = at + 41;
-        let body = &input[from..last];
-        c = one(
-            out, input[at], key, v, body, &mut map, &mut set, &mut log, c,
-        )?;
+    for record in input.as_chunks::<41>().0 {
+        one(out, record, &mut stores)?;
         print::text(out, b"\n")?;
-        at = last;
     }
     Ok(())
 }

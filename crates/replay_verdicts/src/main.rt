@@ -2,45 +2,46 @@
 // From 2^31 on a length stands for a container with so many zero bytes of code more.
 #![tactic(auto)]
 
-use container_verify::verify::Verified;
+use container_verify::verify::verify;
 use std::io;
 use std::io::{BufWriter, Write};
 
 const LARGE: usize = 0x8000_0000;
 
-fn line<W: Write>(out: &mut W, v: Verified) -> io::Result<()> {
+fn line<W: Write>(out: &mut W, container: &[u8]) -> io::Result<()> {
     let mut buffer = [0u8; lines::LINE];
-    let n = lines::verdict::line_for(&mut buffer, v);
+    let n = lines::verdict::line_for(&mut buffer, verify(container));
     print::front(out, &buffer, n)
 }
 
+// The most zero bytes of code that are asked for; the tag and three counts take 16 more.
+const MOST: usize = 65584;
+
 // A container with n zero bytes of code.
 fn large<W: Write>(out: &mut W, n: usize) -> io::Result<()> {
-    let mut bytes = [0u8; 65600];
-    if n > 65584 {
+    let mut bytes = [0u8; MOST + 16];
+    if n > MOST {
         return Ok(());
     }
-    words::bytes::write(&mut bytes, 0, 4, 0x51564D31);
+    bytes[..4].copy_from_slice(b"QVM1");
     words::bytes::write(&mut bytes, 4, 4, n as u64);
-    let end = n + 16;
-    line(out, container_verify::verify::verify(&bytes[..end]))
+    line(out, &bytes[..n + 16])
 }
 
 fn lines<W: Write>(out: &mut W, input: &[u8]) -> io::Result<()> {
-    let mut at = 0;
-    while 4 <= input.len() - at {
-        at += 4;
-        let n = words::bytes::read(input, at - 4, 4) as usize;
+    let mut rest = input;
+    while let Some((length, tail)) = rest.split_first_chunk::<4>() {
+        let n = u32::from_be_bytes(*length) as usize;
         if n >= LARGE {
             large(out, n - LARGE)?;
+            rest = tail;
             continue;
         }
-        if input.len() - at < n {
+        let Some((bytes, next)) = tail.split_at_checked(n) else {
             break;
-        }
-        let end = at + n;
-        line(out, container_verify::verify::verify(&input[at..end]))?;
-        at = end;
+        };
+        line(out, bytes)?;
+        rest = next;
     }
     Ok(())
 }

@@ -1,10 +1,8 @@
 -- Rows of replies (document 01, number 46: not whole 48-byte rows, or a row against the layout).
-use Rattle.std.specs.Prelude.{◌≡◌, Bool, true, List, ℕ, zero, suc, ◌*◌, length, take, drop}
+use Rattle.std.specs.Prelude.{◌≡◌, Bool, true, List, ℕ, zero, suc, ◌*◌, length, take, drop, Option, Some, None}
 use Rattle.words.specs.Choice.{both}
 use Rattle.words.specs.Whole.{whole_of}
 use Rattle.replies.specs.Reply.{good_reply}
-use Rattle.replies.specs.declared.rows.Replies.{Replies}
-use Rattle.replies.specs.declared.rows.Replies.TheVariants.{Rows, Bad}
 
 -- the first n rows are good
 unfoldable pub good_replies : ℕ → List ℕ → Bool
@@ -16,5 +14,5 @@ abbrev pub WholeReplies : ℕ → List ℕ → Type 0
 WholeReplies n s = (length s ≡ n * 48) × (good_replies n s ≡ true)
 
 -- the number of rows, where there are whole rows and all are good
-unfoldable pub replies_of : List ℕ → Replies
-replies_of s = whole_of (λ n. good_replies n s) Rows Bad (length s) 48
+unfoldable pub replies_of : List ℕ → Option ℕ
+replies_of s = whole_of (λ n. good_replies n s) Some None (length s) 48

@@ -1,29 +1,28 @@
 -- What the walk over reply rows does in a turn. Assumes nothing.
-use Rattle.std.specs.Prelude.{◌≡◌, true, false, List, length, take, drop}
-use Rattle.std.proofs.Common.{◌∙◌}
-use Prim.Native.Nat.{ℕ, suc, ◌+◌, ◌-◌, ◌/◌, ◌%◌, ◌≤◌, ◌<◌}
-use native.Mathlib.Omega.{arith}
-use Rattle.std.proofs.Math.Seq.{drop-drop}
+use Rattle.std.specs.Prelude.{◌≡◌, Bool, true, false, List, ◌++◌, ℕ, suc, ◌/◌, ◌<◌, length, take, drop}
+use Rattle.std.proofs.Common.{sym, ap, ◌∙◌, arith, length-append, take_at, drop_at}
 use Rattle.words.specs.Choice.{both}
 use Rattle.replies.specs.Reply.{good_reply}
 use Rattle.replies.specs.Replies.{good_replies}
-use Rattle.replies.specs.Walks.{good_from}
+use Rattle.replies.specs.Walks.{good_rest}
 
-module _ (s : List ℕ) (at : ℕ) where
-  pub replies_start : at ≡ 0 → good_replies (length s / 48) s ≡ good_from at s
-  replies_start e = let n : length s / 48 ≡ (length s - at) / 48 = omega arith in rw (n, e)
-
-  module _ (l : length s % 48 ≡ 0) (a : at % 48 ≡ 0) (h : at < length s) where
-    turn : good_from at s ≡ both (good_reply (take 48 (drop at s))) (good_from (at + 48) s)
-    unfolding good_replies
-    turn = let n : (length s - at) / 48 ≡ suc ((length s - (at + 48)) / 48) = omega arith in rw (n, drop-drop 48 at s)
-
-    pub replies_on : good_reply (take 48 (drop at s)) ≡ true → good_from at s ≡ good_from (at + 48) s
-    replies_on e = turn ∙ rw e
-
-    pub replies_stop : good_reply (take 48 (drop at s)) ≡ false → good_from at s ≡ false
-    replies_stop e = turn ∙ rw e
-
-  pub replies_end : length s ≤ at → good_from at s ≡ true
+-- of the rows r that are left, x is the first
+module _ (r x t : List ℕ) (e : r ≡ x ++ t) (l : length x ≡ 48) where
+  turn : good_rest r ≡ both (good_reply x) (good_rest t)
   unfolding good_replies
-  replies_end h = let n : (length s - at) / 48 ≡ 0 = omega arith in rw n
+  turn =
+      let n : length r / 48 ≡ suc (length t / 48) = omega (arith, ap length e, length-append x t) in
+      let h : take 48 r ≡ x = ap (take 48) e ∙ take_at x t 48 l in
+      let d : drop 48 r ≡ t = ap (drop 48) e ∙ drop_at x t 48 l in
+      rw (n, h, d)
+
+  pub replies_on : true ≡ good_reply x → good_rest r ≡ good_rest t
+  replies_on q = turn ∙ ap (λ (b : Bool). both b (good_rest t)) (sym q)
+
+  pub replies_stop : false ≡ good_reply x → good_rest r ≡ false
+  replies_stop q = turn ∙ ap (λ (b : Bool). both b (good_rest t)) (sym q)
+
+-- less than a row is left
+pub replies_end : (r : List ℕ) → length r < 48 → good_rest r ≡ true
+unfolding good_replies
+replies_end r h = let n : length r / 48 ≡ 0 = omega arith in rw n

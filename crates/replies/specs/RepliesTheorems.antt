@@ -1,6 +1,6 @@
 -- A fault row changes nothing, and a check of replies accepts exactly whole good rows. Assumes nothing.
 use Rattle.std.proofs.Math.Path.{◌≡◌, ap}
-use Rattle.std.specs.Prelude.{refl, Bool, true, ℕ, ◌+◌, take, leb, eqb}
+use Rattle.std.specs.Prelude.{refl, Bool, true, ℕ, ◌+◌, take, leb, eqb, Some, None}
 use Rattle.std.proofs.Common.{sym, ◌∙◌, arith, drop-drop, get_or-drop}
 use mathlib.Core.List.{List, [], ◌∷◌}
 use Rattle.std.proofs.Math.ListN.{length, drop, get_or, replicate, length-drop}
@@ -13,7 +13,6 @@ use Rattle.replies.specs.Replies.{good_replies, WholeReplies, replies_of}
 use Rattle.replies.specs.Walks.{after_outcome, after_register, after_region, after_zeros}
 use Rattle.replies.specs.ReplyLaws.{good_walked}
 use Rattle.words.specs.WholeLaws.{whole_counted, counted_whole, else_refused}
-use Rattle.replies.specs.declared.rows.Replies.TheVariants.{Rows, Bad}
 
 -- zeroes are nothing but zeroes
 zeros_are : (xs : List ℕ) → zeros xs ≡ true → xs ≡ replicate (length xs) 0
@@ -56,14 +55,14 @@ module _ (s : List ℕ) where
   test n = good_replies n s
 
   -- replies are accepted exactly where they are whole good rows
-  pub replies_exactly : (n : ℕ) → (replies_of s ≡ Rows n → WholeReplies n s) × (WholeReplies n s → replies_of s ≡ Rows n)
+  pub replies_exactly : (n : ℕ) → (replies_of s ≡ Some n → WholeReplies n s) × (WholeReplies n s → replies_of s ≡ Some n)
   unfolding replies_of test
   replies_exactly n = (
-    counted_whole test Rows Bad (length s) 48 (λ m k q. cc) (λ k q. let z : ◌≡◌ {A = ℕ} 0 1 = cc in omega arith) n,
-    λ w. whole_counted test Rows Bad (length s) 48 (omega arith) n w.0 w.1,
+    counted_whole test Some None (length s) 48 (λ m k q. cc) (λ k q. cc) n,
+    λ w. whole_counted test Some None (length s) 48 (omega arith) n w.0 w.1,
   )
 
   -- other bytes are bad
-  pub replies_else : ((n : ℕ) → WholeReplies n s → ⊥) → replies_of s ≡ Bad
+  pub replies_else : ((n : ℕ) → WholeReplies n s → ⊥) → replies_of s ≡ None
   unfolding replies_of test
-  replies_else never = else_refused test Rows Bad (length s) 48 (λ n l g. never n (l, g))
+  replies_else never = else_refused test Some None (length s) 48 (λ n l g. never n (l, g))

@@ -1,26 +1,33 @@
 -- Zeroes from a place on, and what each test of a reply row tells. Assumes nothing.
-use Rattle.std.specs.Prelude.{◌≡◌, refl, Bool, true, false, List, [], ◌∷◌, ◌++◌, ℕ, ◌+◌, ◌≤◌, ◌<◌, length, take, drop, get_or, leb, eqb}
-use Rattle.std.proofs.Common.{sym, ap, ◌∙◌, append-nil, arith, add-one, length-drop, take-append-drop, drop_of_length-le, drop-cons, drop-drop, length-take-le, take_all, leb-true, eq-eqb, ne_eqb}
-use Rattle.std.proofs.Math.Seq.{paste}
+use Rattle.std.specs.Prelude.{◌≡◌, refl, Bool, true, false, List, [], ◌∷◌, ◌++◌, ℕ, ◌+◌, ◌≤◌, length, take, drop, get_or, leb, eqb, zero, suc, IsTrue, All, ◌↔◌}
+use Rattle.std.proofs.Common.{sym, ap, ◌∙◌, arith, length-drop, take-append-drop, drop_of_length-le, drop-cons, drop-drop, length-take-le, leb-true, eq-eqb, eqb-true}
 use Rattle.std.proofs.lemmas.List.{drop-append-le}
 use Rattle.words.specs.Bytes.{num}
 use Rattle.words.specs.Choice.{both}
-use Rattle.words.specs.ChoiceLaws.{both_assoc, both_true}
-use Rattle.replies.specs.Reply.{reply_of, zeros, good_region, good_reply}
-use Rattle.replies.specs.Walks.{after_outcome}
+use Rattle.words.specs.ChoiceLaws.{both_assoc, both_true, both_left, both_right}
+use Rattle.replies.specs.Reply.{reply_of, zeros, good_register, good_region, good_reply}
+use Rattle.replies.specs.Walks.{after_outcome, after_zeros}
 use Rattle.replies.specs.declared.reply.Reply.{Reply}
 
-pub zeros_turn : (s : List ℕ) (i : ℕ) → i < length s → get_or s i 0 ≡ 0 → zeros (drop i s) ≡ zeros (drop (i + 1) s)
+-- the test and the fact
+all_zeros : (xs : List ℕ) → All (λ x. x ≡ 0) xs → zeros xs ≡ true
 unfolding zeros
-zeros_turn s i h e = rw (drop-cons s i 0 h, eq-eqb (get_or s i 0) 0 e, add-one)
+all_zeros [] h = refl
+all_zeros (x ∷ xs) h = rw (eq-eqb x 0 (h 0 0 (omega arith))) (all_zeros xs (λ k d l. h (suc k) d (omega arith)))
 
-pub zeros_stop : (s : List ℕ) (i : ℕ) → i < length s → (get_or s i 0 ≡ 0 → ⊥) → zeros (drop i s) ≡ false
+zeros_all : (xs : List ℕ) → zeros xs ≡ true → All (λ x. x ≡ 0) xs
 unfolding zeros
-zeros_stop s i h e = rw (drop-cons s i 0 h, ne_eqb (get_or s i 0) 0 e)
+zeros_all [] e k d l = absurd (omega arith)
+zeros_all (x ∷ xs) e zero d l = eqb-true x 0 (both_left (eqb x 0) (zeros xs) e)
+zeros_all (x ∷ xs) e (suc k) d l = zeros_all xs (both_right (eqb x 0) (zeros xs) e) k d (omega arith)
 
-pub zeros_end : (s : List ℕ) (i : ℕ) → length s ≤ i → zeros (drop i s) ≡ true
-unfolding zeros
-zeros_end s i h = rw (drop_of_length-le s h)
+pub zeros_exactly : (b : Bool) (xs : List ℕ) → (IsTrue b ↔ All (λ x. x ≡ 0) xs) → b ≡ zeros xs
+zeros_exactly true xs h = sym (all_zeros xs (h.0 refl))
+zeros_exactly false xs h = go (zeros xs) refl
+  where
+    go : (z : Bool) → zeros xs ≡ z → false ≡ z
+    go false e = refl
+    go true e = h.1 (zeros_all xs e)
 
 zeros_append : (a b : List ℕ) → zeros (a ++ b) ≡ both (zeros a) (zeros b)
 unfolding zeros
@@ -47,7 +54,7 @@ region_length n o e = go (leb n 32) refl
   where
     go : (b : Bool) → leb n 32 ≡ b → n ≤ 32
     go true q = leb-true n 32 q
-    go false q = let f : false ≡ true = rw q at e in let z : ◌≡◌ {A = ℕ} 0 1 = cc in absurd (omega arith)
+    go false q = let f : false ≡ true = rw q at e in absurd cc
 
 -- past a region that fits, the walk is the two tests
 past_region : (s : List ℕ) (n o : ℕ) (x : Bool) → length s ≡ 48
@@ -62,18 +69,25 @@ past_region s n o x l = go (good_region n o) refl
         ∙ ap (λ (b : Bool). both b x) (sym (zeros_past s n l (region_length n o e)))
     go false e = refl
 
+-- five tests in a row, the first four as one
+regroup : (a b c d e : Bool) → both a (both b (both c (both d e))) ≡ both (both (both (both a b) c) d) e
+regroup false b c d e = refl
+regroup true false c d e = refl
+regroup true true false d e = refl
+regroup true true true d e = refl
+
 pub good_walked : (s : List ℕ) (r : Reply) → length s ≡ 48 → r ≡ reply_of s → good_reply s ≡ both (leb r.outcome 14) (after_outcome s r)
 unfolding good_reply reply_of
 good_walked s r l e = rw (e, past_region s (get_or s 10 0) (num (take 4 (drop 11 s))) _ l)
 
+-- the same, the tests before the last as one
+pub good_told : (s : List ℕ) (r : Reply) → length s ≡ 48 → r ≡ reply_of s
+    → good_reply s ≡ both (both (both (both (leb r.outcome 14) (good_register r.register r.value)) (good_region r.length r.offset)) (zeros (drop (r.length + 15) s))) (after_zeros s r)
+good_told s r l e = good_walked s r l e ∙ regroup (leb r.outcome 14) _ _ _ _
+
 -- a row's fields, as they are read
-pub parsed : (s z b : List ℕ) (v o : ℕ) → length s ≡ 48 → length z ≡ 32 → v ≡ num (take 8 (drop 2 s)) → o ≡ num (take 4 (drop 11 s))
-    → b ≡ paste z 0 (take 32 (drop 15 s)) (length (take 32 (drop 15 s)))
+pub parsed : (s b : List ℕ) (v o : ℕ) → v ≡ num (take 8 (drop 2 s)) → o ≡ num (take 4 (drop 11 s)) → b ≡ take 32 (drop 15 s)
     → record { outcome = get_or s 0 0; register = get_or s 1 0; value = v; length = get_or s 10 0; offset = o; bytes = b } ≡ reply_of s
 unfolding reply_of
-parsed s z b v o l lz pv po pb =
-    let x : List ℕ = take 32 (drop 15 s) in
-    let lx : length x ≡ 32 = length-take-le 32 (drop 15 s) (omega (arith, length-drop 15 s)) in
-    let n : drop 32 z ≡ [] = drop_of_length-le z {i = 32} (omega arith) in
-    let q : b ≡ x = pb ∙ ap (paste z 0 x) lx ∙ (λ i. take_all 32 x (omega arith) i ++ n i) ∙ append-nil x in
-    λ i. record { outcome = get_or s 0 0; register = get_or s 1 0; value = pv i; length = get_or s 10 0; offset = po i; bytes = q i }
+parsed s b v o pv po pb =
+    λ i. record { outcome = get_or s 0 0; register = get_or s 1 0; value = pv i; length = get_or s 10 0; offset = po i; bytes = pb i }

@@ -1,5 +1,5 @@
 -- What is left to test in the walks over a row and over rows: what proofs speak of, no rule.
-use Rattle.std.specs.Prelude.{Bool, List, ℕ, ◌+◌, ◌-◌, ◌/◌, eqb, length, drop}
+use Rattle.std.specs.Prelude.{Bool, List, ℕ, ◌+◌, ◌/◌, eqb, length, drop}
 use Rattle.words.specs.Choice.{both, either}
 use Rattle.replies.specs.Reply.{zeros, good_register, good_region}
 use Rattle.replies.specs.Replies.{good_replies}
@@ -18,6 +18,6 @@ after_register s r = both (good_region r.length r.offset) (after_region s r)
 abbrev pub after_outcome : List ℕ → Reply → Bool
 after_outcome s r = both (good_register r.register r.value) (after_register s r)
 
--- the rows from a place on are good
-abbrev pub good_from : ℕ → List ℕ → Bool
-good_from at s = good_replies ((length s - at) / 48) (drop at s)
+-- the rows that are left are good
+abbrev pub good_rest : List ℕ → Bool
+good_rest r = good_replies (length r / 48) r

@@ -12,47 +12,27 @@ pub struct Reply {
     pub bytes: [u8; 32],
 }
 
-// Whether every byte from a place on is zero.
-fn zero_from(s: &[u8], from: usize) -> bool
-    ensures { result ≡ zeros (drop from s.now) }
+// Whether every byte is zero.
+fn all_zero(s: &[u8]) -> bool
+    ensures { result ≡ zeros s.now }
 {
-    let mut i = from;
-    while i < s.len() {
-        if s[i] != 0 {
-            return false;
-        }
-        i += 1;
-    }
-    true
+    s.iter().all(|&b| b == 0)
 }
 
 // Register 0 to 15; or none, and then no value.
+#[tactic(auto, unfolding(crate::specs::Reply::good_register))]
 fn register_fits(register: u8, value: u64) -> bool
     ensures { result ≡ good_register register value }
 {
-    if register < 16 {
-        return true;
-    }
-    if register != 255 {
-        return false;
-    }
-    value == 0
+    register < 16 || (register == 255 && value == 0)
 }
 
 // At most 32 bytes, within the memory; at offset 0 if there are none.
+#[tactic(auto, unfolding(crate::specs::Reply::good_region))]
 fn region_fits(count: usize, offset: usize) -> bool
     ensures { result ≡ good_region count offset }
 {
-    if count > 32 {
-        return false;
-    }
-    if offset > 65536 - count {
-        return false;
-    }
-    if count > 0 {
-        return true;
-    }
-    offset == 0
+    count <= 32 && offset <= 65536 - count && (count > 0 || offset == 0)
 }
 
 // What a row says.
@@ -61,14 +41,14 @@ pub(crate) fn parse(row: &[u8]) -> Reply
     ensures { result ≡ reply_of row.now }
 {
     let mut bytes = [0u8; 32];
-    words::bytes::copy_in(&mut bytes, 0, &row[15..47]);
+    bytes.copy_from_slice(&row[15..47]);
     Reply {
         outcome: row[0],
         register: row[1],
         value: words::bytes::read(row, 2, 8),
         length: row[10] as usize,
         offset: words::bytes::read(row, 11, 4) as usize,
-        bytes: bytes,
+        bytes,
     }
 }
 
@@ -78,23 +58,9 @@ pub(crate) fn good(row: &[u8]) -> bool
     ensures { result ≡ good_reply row.now }
 {
     let r = parse(row);
-    if r.outcome > 14 {
-        return false;
-    }
-    if !register_fits(r.register, r.value) {
-        return false;
-    }
-    if !region_fits(r.length, r.offset) {
-        return false;
-    }
-    if !zero_from(row, r.length + 15) {
-        return false;
-    }
-    if r.outcome == 0 {
-        return true;
-    }
-    if r.register != 255 {
-        return false;
-    }
-    zero_from(row, 2)
+    r.outcome <= 14
+        && register_fits(r.register, r.value)
+        && region_fits(r.length, r.offset)
+        && all_zero(&row[r.length + 15..])
+        && (r.outcome == 0 || (r.register == 255 && all_zero(&row[2..])))
 }

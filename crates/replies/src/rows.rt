@@ -5,28 +5,19 @@ ghost use Rattle.replies.specs.Replies.{replies_of};
 
 use crate::reply::Reply;
 
-#[derive(Clone, Copy)]
-pub enum Replies {
-    Rows(usize),
-    Bad,
-}
-
 // How many rows there are, or that they are bad.
-pub fn check_replies(s: &[u8]) -> Replies
+pub fn check_replies(s: &[u8]) -> Option<usize>
     ensures { result ≡ replies_of s.now }
 {
     if s.len() % 48 != 0 {
-        return Replies::Bad;
+        return None;
     }
-    let mut at = 0;
-    while at < s.len() {
-        let end = at + 48;
-        if !crate::reply::good(&s[at..end]) {
-            return Replies::Bad;
+    for row in s.chunks_exact(48) {
+        if !crate::reply::good(row) {
+            return None;
         }
-        at = end;
     }
-    Replies::Rows(s.len() / 48)
+    Some(s.len() / 48)
 }
 
 // Row i.
@@ -35,6 +26,5 @@ pub fn reply(s: &[u8], i: usize) -> Reply
     ensures { result ≡ reply_of (take 48 (drop (i * 48) s.now)) }
 {
     let at = i * 48;
-    let end = at + 48;
-    crate::reply::parse(&s[at..end])
+    crate::reply::parse(&s[at..at + 48])
 }

@@ -4,7 +4,6 @@ ghost use Rattle.std.specs.Prelude.{◌≤◌, length, IfSome};
 use std::env::{Env, FillError};
 use std::io;
 use std::io::Write;
-use text::number::ParsedNumber;
 
 // No path is longer.
 pub const LONGEST: usize = 4096;
@@ -16,207 +15,190 @@ const ML_SIGNED: u64 = 5261;
 
 const SLH_SIGNED: u64 = 7888;
 
-// Which argument names each file, 0 for none; and the host's numbers.
+// Which argument names each file, and the host's numbers.
 #[derive(Clone, Copy)]
 pub struct Asked {
-    pub ok: bool,
-    pub files: usize,
     pub container: usize,
     pub store: usize,
     pub call: usize,
-    pub loader: usize,
-    pub out: usize,
-    pub genesis: u64,
+    pub loader: Option<usize>,
+    pub out: Option<usize>,
+    pub genesis: u32,
     pub ml_signed: u64,
     pub slh_signed: u64,
-    pub waiting: u64,
 }
 
-// What an argument is: a file, an option that takes the next argument, or neither.
-const FILE: u64 = 0;
+// Why arguments are refused: the last three when all are read.
+#[derive(Clone, Copy, Debug, PartialEq, Eq)]
+enum ArgError {
+    FileTooMany,
+    NoSuchOption,
+    NoNumber,
+    FewFiles,
+    NoValue,
+    LargeGenesis,
+}
 
-const GENESIS_NEXT: u64 = 1;
+impl ArgError {
+    fn why(self) -> &'static [u8] {
+        match self {
+            ArgError::FileTooMany => b"one file too many",
+            ArgError::NoSuchOption => b"no such option",
+            ArgError::NoNumber => b"no decimal number below 2^64",
+            ArgError::FewFiles =>
+                b"CONTAINER STORE CALL [LOADER] [--out FILE] [--genesis N] [--ml N] [--slh N]",
+            ArgError::NoValue => b"the last option lacks its value",
+            ArgError::LargeGenesis => b"a selector is below 2^32",
+        }
+    }
+}
 
-const ML_NEXT: u64 = 2;
+// An option, which takes the next argument.
+#[derive(Clone, Copy, Debug, PartialEq, Eq)]
+enum Setting {
+    Genesis,
+    Ml,
+    Slh,
+    Out,
+}
 
-const SLH_NEXT: u64 = 3;
+impl TryFrom<&[u8]> for Setting {
+    type Error = ArgError;
 
-const OUT_NEXT: u64 = 4;
+    fn try_from(word: &[u8]) -> Result<Setting, ArgError> {
+        match word {
+            b"--genesis" => Ok(Setting::Genesis),
+            b"--ml" => Ok(Setting::Ml),
+            b"--slh" => Ok(Setting::Slh),
+            b"--out" => Ok(Setting::Out),
+            _ => Err(ArgError::NoSuchOption),
+        }
+    }
+}
 
-const UNKNOWN: u64 = 5;
+// What the arguments so far say, and the option that waits for the next.
+#[derive(Clone, Copy)]
+struct Given {
+    container: Option<usize>,
+    store: Option<usize>,
+    call: Option<usize>,
+    loader: Option<usize>,
+    out: Option<usize>,
+    genesis: u64,
+    ml_signed: u64,
+    slh_signed: u64,
+    waiting: Option<Setting>,
+}
 
-// Argument i in the front of the bytes, and how long it is: 0 for one that has no room, none behind the last.
-pub fn argument<V: Env>(env: &V, i: usize, t: &mut [u8]) -> Option<usize>
-    ensures { IfSome result (λ n. n ≤ length t.new) }
+impl Given {
+    fn new() -> Given {
+        Given {
+            container: None,
+            store: None,
+            call: None,
+            loader: None,
+            out: None,
+            genesis: GENESIS,
+            ml_signed: ML_SIGNED,
+            slh_signed: SLH_SIGNED,
+            waiting: None,
+        }
+    }
+
+    // A file, by those before it.
+    fn file(self, i: usize) -> Result<Given, ArgError> {
+        let mut given = self;
+        match (self.container, self.store, self.call, self.loader) {
+            (None, _, _, _) => given.container = Some(i),
+            (_, None, _, _) => given.store = Some(i),
+            (_, _, None, _) => given.call = Some(i),
+            (_, _, _, None) => given.loader = Some(i),
+            _ => return Err(ArgError::FileTooMany),
+        }
+        Ok(given)
+    }
+
+    // The value that an option waits for.
+    fn value(self, setting: Setting, i: usize, word: &[u8]) -> Result<Given, ArgError> {
+        let mut given = self;
+        let number = text::number::parse(word).ok_or(ArgError::NoNumber);
+        match setting {
+            Setting::Genesis => given.genesis = number?,
+            Setting::Ml => given.ml_signed = number?,
+            Setting::Slh => given.slh_signed = number?,
+            Setting::Out => given.out = Some(i),
+        }
+        given.waiting = None;
+        Ok(given)
+    }
+
+    // What argument i adds.
+    fn with(self, i: usize, word: &[u8]) -> Result<Given, ArgError> {
+        if let Some(setting) = self.waiting {
+            return self.value(setting, i, word);
+        }
+        if !word.starts_with(b"--") {
+            return self.file(i);
+        }
+        let mut given = self;
+        given.waiting = Some(Setting::try_from(word)?);
+        Ok(given)
+    }
+
+    // The arguments, if they are whole.
+    fn whole(self) -> Result<Asked, ArgError> {
+        let (Some(container), Some(store), Some(call)) = (self.container, self.store, self.call)
+        else {
+            return Err(ArgError::FewFiles);
+        };
+        if self.waiting.is_some() {
+            return Err(ArgError::NoValue);
+        }
+        Ok(Asked {
+            container,
+            store,
+            call,
+            loader: self.loader,
+            out: self.out,
+            genesis: u32::try_from(self.genesis).map_err(|_| ArgError::LargeGenesis)?,
+            ml_signed: self.ml_signed,
+            slh_signed: self.slh_signed,
+        })
+    }
+}
+
+// Argument i, in the bytes: empty where it has no room there, none behind the last.
+pub fn argument<'a, V: Env>(env: &V, i: usize, t: &'a mut [u8]) -> Option<&'a [u8]>
+    ensures { IfSome result (λ s. length s.now ≤ length t.old) }
 {
     match env.arg(i, t) {
-        Ok(n) => Some(n),
-        Err(FillError::TooLong) => Some(0),
+        Ok(n) => Some(&t[..n]),
+        Err(FillError::TooLong) => Some(&[]),
         Err(FillError::NotPresent) => None,
     }
 }
 
-fn nothing() -> Asked {
-    Asked {
-        ok: true,
-        files: 0,
-        container: 0,
-        store: 0,
-        call: 0,
-        loader: 0,
-        out: 0,
-        genesis: GENESIS,
-        ml_signed: ML_SIGNED,
-        slh_signed: SLH_SIGNED,
-        waiting: FILE,
-    }
+fn refused<E: Write>(err: &mut E, what: &[u8], e: ArgError) -> io::Result<Option<Asked>> {
+    crate::said::complain(err, what, e.why())?;
+    Ok(None)
 }
 
-// Whether a word is the name.
-fn is(word: &[u8], name: &[u8]) -> bool {
-    let n = name.len();
-    if word.len() != n {
-        return false;
-    }
-    let mut at = 0;
-    while at < n {
-        let w = word[at];
-        if w != name[at] {
-            return false;
-        }
-        at += 1;
-    }
-    true
-}
-
-fn kind(word: &[u8]) -> u64 {
-    if word.len() < 2 {
-        return FILE;
-    }
-    if !is(&word[..2], b"--") {
-        return FILE;
-    }
-    if is(word, b"--genesis") {
-        return GENESIS_NEXT;
-    }
-    if is(word, b"--ml") {
-        return ML_NEXT;
-    }
-    if is(word, b"--slh") {
-        return SLH_NEXT;
-    }
-    if is(word, b"--out") {
-        return OUT_NEXT;
-    }
-    UNKNOWN
-}
-
-fn refused<E: Write>(err: &mut E, asked: Asked, word: &[u8], why: &[u8]) -> io::Result<Asked> {
-    crate::said::complain(err, word, why)?;
-    let mut a = asked;
-    a.ok = false;
-    Ok(a)
-}
-
-// A file, by how many stand before it.
-fn file<E: Write>(err: &mut E, asked: Asked, i: usize, word: &[u8]) -> io::Result<Asked> {
-    let before = asked.files;
-    if before > 3 {
-        return refused(err, asked, word, b"one file too many");
-    }
-    let mut a = asked;
-    a.files = before + 1;
-    match before {
-        0 => a.container = i,
-        1 => a.store = i,
-        2 => a.call = i,
-        _ => a.loader = i,
-    }
-    Ok(a)
-}
-
-fn option<E: Write>(err: &mut E, asked: Asked, kind: u64, word: &[u8]) -> io::Result<Asked> {
-    if kind == UNKNOWN {
-        return refused(err, asked, word, b"no such option");
-    }
-    let mut a = asked;
-    a.waiting = kind;
-    Ok(a)
-}
-
-// The number that an option waits for.
-fn number<E: Write>(err: &mut E, asked: Asked, word: &[u8]) -> io::Result<Asked> {
-    let p = text::number::parse(word);
-    let ParsedNumber::Number(n) = p else {
-        return refused(err, asked, word, b"no decimal number below 2^64");
-    };
-    let mut a = asked;
-    let waiting = a.waiting;
-    match waiting {
-        GENESIS_NEXT => a.genesis = n,
-        ML_NEXT => a.ml_signed = n,
-        _ => a.slh_signed = n,
-    }
-    a.waiting = FILE;
-    Ok(a)
-}
-
-fn value<E: Write>(err: &mut E, asked: Asked, i: usize, word: &[u8]) -> io::Result<Asked> {
-    if asked.waiting == OUT_NEXT {
-        let mut a = asked;
-        a.out = i;
-        a.waiting = FILE;
-        return Ok(a);
-    }
-    number(err, asked, word)
-}
-
-// What argument i adds.
-fn with<E: Write>(err: &mut E, asked: Asked, i: usize, word: &[u8]) -> io::Result<Asked> {
-    if asked.waiting != FILE {
-        return value(err, asked, i, word);
-    }
-    let k = kind(word);
-    if k == FILE {
-        return file(err, asked, i, word);
-    }
-    option(err, asked, k, word)
-}
-
-fn all<V: Env, E: Write>(env: &V, err: &mut E) -> io::Result<Asked> {
-    let mut a = nothing();
+// The arguments, or a complaint.
+pub fn read<V: Env, E: Write>(env: &V, err: &mut E) -> io::Result<Option<Asked>> {
+    let mut given = Given::new();
     for i in 1..usize::MAX {
         let mut buffer = [0u8; LONGEST];
-        let Some(n) = argument(env, i, &mut buffer) else {
+        let Some(word) = argument(env, i, &mut buffer) else {
             break;
         };
-        a = with(err, a, i, &buffer[..n])?;
-        if !a.ok {
-            break;
+        match given.with(i, word) {
+            Ok(next) => given = next,
+            Err(e) => return refused(err, word, e),
         }
     }
-    Ok(a)
-}
-
-// The arguments, if they are whole.
-pub fn read<V: Env, E: Write>(env: &V, err: &mut E) -> io::Result<Asked> {
-    let a = all(env, err)?;
-    if !a.ok {
-        return Ok(a);
+    match given.whole() {
+        Ok(asked) => Ok(Some(asked)),
+        Err(ArgError::LargeGenesis) => refused(err, b"--genesis", ArgError::LargeGenesis),
+        Err(e) => refused(err, b"usage", e),
     }
-    if a.files < 3 {
-        return refused(
-            err,
-            a,
-            b"usage",
-            b"CONTAINER STORE CALL [LOADER] [--out FILE] [--genesis N] [--ml N] [--slh N]",
-        );
-    }
-    if a.waiting != FILE {
-        return refused(err, a, b"usage", b"the last option lacks its value");
-    }
-    if a.genesis > 4294967295 {
-        return refused(err, a, b"--genesis", b"a selector is below 2^32");
-    }
-    Ok(a)
 }

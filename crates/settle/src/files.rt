@@ -2,15 +2,10 @@
 ghost use Rattle.std.specs.Prelude.{◌≤◌, length, IfOk};
 
 use crate::args::{LONGEST, argument};
+use print::parts::first;
 use std::io::{Read, Write};
 use std::rt::{Env, Files};
 use std::{fs, io, str};
-
-#[derive(Clone, Copy)]
-pub enum Loaded {
-    Bytes(usize),
-    Failed,
-}
 
 // Whether a file that was read as far as there is room ends there.
 fn ended<F: Read>(file: &mut F) -> io::Result<bool> {
@@ -30,10 +25,7 @@ fn read_from<F: Read>(file: &mut F, t: &mut [u8]) -> io::Result<usize>
 
 // The library takes no other path.
 fn path_of(word: &[u8]) -> io::Result<&str> {
-    match str::from_utf8(word) {
-        Ok(path) => Ok(path),
-        Err(_) => Err(io::Error::other("a path that is no UTF-8")),
-    }
+    str::from_utf8(word).map_err(|_| io::Error::other("a path that is no UTF-8"))
 }
 
 fn read<R: Files>(rt: &R, word: &[u8], t: &mut [u8]) -> io::Result<usize> {
@@ -46,36 +38,35 @@ fn write<R: Files>(rt: &R, word: &[u8], s: &[u8]) -> io::Result<()> {
     file.write_all(s)
 }
 
-// Reads a whole file into the front of the bytes.
-pub fn load<R: Files + Env + AllocGlobal, E: Write>(
+// A whole file, read into the front of the bytes, or a complaint.
+pub fn load<'a, R: Files + Env + AllocGlobal, E: Write>(
     rt: &R,
     err: &mut E,
     i: usize,
-    t: &mut [u8],
-) -> io::Result<Loaded> {
+    t: &'a mut [u8],
+) -> io::Result<Option<&'a [u8]>> {
     let mut buffer = [0u8; LONGEST];
-    let n = argument(rt, i, &mut buffer).unwrap_or(0);
-    let path = &buffer[..n];
+    let path = argument(rt, i, &mut buffer).unwrap_or(&[]);
     match read(rt, path, t) {
-        Ok(size) => Ok(Loaded::Bytes(size)),
+        Ok(size) => Ok(Some(first(t, size))),
         Err(refusal) => {
             crate::said::failed(rt.alloc(), err, path, &refusal)?;
-            Ok(Loaded::Failed)
+            Ok(None)
         }
     }
 }
 
 // The same for a file that may not be asked for.
-pub fn load_any<R: Files + Env + AllocGlobal, E: Write>(
+pub fn load_any<'a, R: Files + Env + AllocGlobal, E: Write>(
     rt: &R,
     err: &mut E,
-    i: usize,
-    t: &mut [u8],
-) -> io::Result<Loaded> {
-    if i == 0 {
-        return Ok(Loaded::Bytes(0));
+    i: Option<usize>,
+    t: &'a mut [u8],
+) -> io::Result<Option<&'a [u8]>> {
+    match i {
+        Some(i) => load(rt, err, i, t),
+        None => Ok(Some(&[])),
     }
-    load(rt, err, i, t)
 }
 
 // Writes a whole file, and says whether it did.
@@ -86,8 +77,7 @@ pub fn save<R: Files + Env + AllocGlobal, E: Write>(
     s: &[u8],
 ) -> io::Result<bool> {
     let mut buffer = [0u8; LONGEST];
-    let n = argument(rt, i, &mut buffer).unwrap_or(0);
-    let path = &buffer[..n];
+    let path = argument(rt, i, &mut buffer).unwrap_or(&[]);
     match write(rt, path, s) {
         Ok(()) => Ok(true),
         Err(refusal) => {

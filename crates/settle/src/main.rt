@@ -7,9 +7,7 @@ mod report;
 mod said;
 
 use args::Asked;
-use calls::{Head, Parted};
-use changes::ChangeList;
-use files::Loaded;
+use calls::{CutError, Head};
 use interp::answer::Answer;
 use machine::host::Host;
 use opening::open::Call;
@@ -18,194 +16,186 @@ use std::io;
 use std::io::{LineWriter, Write};
 use std::rt::{Env, Files};
 
-fn host(a: Asked) -> Host {
+// The system, and where lines and complaints go.
+#[derive(Drop)]
+struct Console<'a, R, W, E> {
+    rt: &'a R,
+    out: &'a mut W,
+    err: &'a mut E,
+}
+
+// The bytes of the files that are read.
+#[derive(Clone, Copy)]
+struct Input<'a> {
+    container: &'a [u8],
+    store: &'a [u8],
+    call: &'a [u8],
+    loader: &'a [u8],
+}
+
+// What a call left.
+#[derive(Clone, Copy)]
+struct Left<'a> {
+    answer: Answer,
+    changes: &'a [u8],
+    log: &'a [u8],
+}
+
+fn host(asked: Asked) -> Host {
     Host {
-        genesis: (a.genesis % 4294967296) as u32,
-        ml_signed: a.ml_signed,
-        slh_signed: a.slh_signed,
+        genesis: asked.genesis,
+        ml_signed: asked.ml_signed,
+        slh_signed: asked.slh_signed,
     }
 }
 
-// Writes the new store to the file that is asked for.
+// Writes the new store to the file that an argument names.
 fn save<R: Files + Env + AllocGlobal, W: Write, E: Write>(
-    rt: &R,
-    out: &mut W,
-    err: &mut E,
-    a: Asked,
+    console: &mut Console<R, W, E>,
+    file: usize,
     store: &[u8],
-    changes: &[u8],
-    count: usize,
+    left: Left,
 ) -> io::Result<()> {
     let mut new = [0u8; 327680];
-    let m = changes::merge::merge(changes, count, store, &mut new);
-    let ChangeList::Rows(n) = m else {
-        return said::complain(err, b"new store", b"not written");
+    let count = left.answer.changes as usize;
+    let Ok(n) = changes::merge::merge(left.changes, count, store, &mut new) else {
+        return said::complain(console.err, b"new store", b"not written");
     };
     // So many have room.
     if n > 8192 {
         return Ok(());
     }
-    if files::save(rt, err, a.out, first(&new, n * 40))? {
-        said::count(out, b"new store rows", n as u64)?;
+    if files::save(console.rt, console.err, file, first(&new, n * 40))? {
+        said::count(console.out, b"new store rows", n as u64)?;
     }
     Ok(())
 }
 
 // The lines of a call's answer, and of what it left if it halted.
-fn lines<W: Write>(
-    out: &mut W,
-    limit: u64,
-    answer: Answer,
-    changes: &[u8],
-    log: &[u8],
-) -> io::Result<()> {
+fn lines<W: Write>(out: &mut W, limit: u64, left: Left) -> io::Result<()> {
+    let answer = left.answer;
     report::answer(out, answer, limit)?;
-    let end = answer.end;
-    if end.number != 0 {
+    if answer.end.number != 0 {
         return Ok(());
     }
-    report::changes(out, changes, answer.changes as usize)?;
-    report::effects(out, log, answer.log as usize)
+    report::changes(out, left.changes, answer.changes as usize)?;
+    report::effects(out, left.log, answer.log as usize)
 }
 
 // What a call left: lines, and the new store if it halted and one is asked for, also where the lines were not taken.
 fn tell<R: Files + Env + AllocGlobal, W: Write, E: Write>(
-    rt: &R,
-    out: &mut W,
-    err: &mut E,
-    a: Asked,
+    console: &mut Console<R, W, E>,
+    asked: Asked,
     limit: u64,
-    answer: Answer,
     store: &[u8],
-    changes: &[u8],
-    log: &[u8],
+    left: Left,
 ) -> io::Result<()> {
-    let told = lines(out, limit, answer, changes, log);
-    let end = answer.end;
-    if end.number != 0 || a.out == 0 {
-        return told;
+    let told = lines(console.out, limit, left);
+    match asked.out {
+        Some(file) if left.answer.end.number == 0 => told.and(save(console, file, store, left)),
+        _ => told,
     }
-    let saved = save(rt, out, err, a, store, changes, answer.changes as usize);
-    told.and(saved)
 }
 
 // With the buffers that a call is lent.
 fn run<R: Files + Env + AllocGlobal, W: Write, E: Write>(
-    rt: &R,
-    out: &mut W,
-    err: &mut E,
-    a: Asked,
-    h: Head,
-    container: &[u8],
-    store: &[u8],
-    loader: &[u8],
-    call: &[u8],
+    console: &mut Console<R, W, E>,
+    asked: Asked,
+    head: Head,
+    input: Input,
     log: &mut [u8],
 ) -> io::Result<()> {
-    let mut memory = [0u8; 65536];
-    let mut stack = [0u64; 1024];
-    let mut starts = [0u8; 8192];
     let mut changes = [0u8; 163840];
-    let mut fetched = [0u8; 163840];
-    let mut reads = [0u8; 131072];
-    let mut writes = [0u8; 131072];
-    let mut fresh = [0u8; 131072];
-    let selector = (h.selector % 4294967296) as u32;
+    let selector = (head.selector % 4294967296) as u32;
     let answer = interp::call::run(
-        Call::for_entry(selector, h.limit, host(a), a.loader != 0),
-        container,
-        store,
-        loader,
-        between(call, calls::HEAD, h.preload),
-        between(call, h.preload, call.len()),
-        &mut memory,
-        &mut stack,
-        &mut starts,
+        Call::for_entry(selector, head.limit, host(asked), asked.loader.is_some()),
+        input.container,
+        input.store,
+        input.loader,
+        between(input.call, calls::HEAD, head.preload),
+        between(input.call, head.preload, input.call.len()),
+        &mut [0; 65536],
+        &mut [0; 1024],
+        &mut [0; 8192],
         &mut changes,
-        &mut fetched,
-        &mut reads,
-        &mut writes,
-        &mut fresh,
+        &mut [0; 163840],
+        &mut [0; 131072],
+        &mut [0; 131072],
+        &mut [0; 131072],
         log,
     );
-    tell(rt, out, err, a, h.limit, answer, store, &changes, log)
+    let left = Left {
+        answer,
+        changes: &changes,
+        log,
+    };
+    tell(console, asked, head.limit, input.store, left)
 }
 
-// A log of this size takes all that a run may post.
+// A log of this size takes all that a run may post. It stands apart, since elsewhere the prover would count its bytes.
 fn with_log<R: Files + Env + AllocGlobal, W: Write, E: Write>(
-    rt: &R,
-    out: &mut W,
-    err: &mut E,
-    a: Asked,
-    h: Head,
-    container: &[u8],
-    store: &[u8],
-    loader: &[u8],
-    call: &[u8],
+    console: &mut Console<R, W, E>,
+    asked: Asked,
+    head: Head,
+    input: Input,
 ) -> io::Result<()> {
     let mut log = [0u8; 1048576];
-    run(rt, out, err, a, h, container, store, loader, call, &mut log)
+    run(console, asked, head, input, &mut log)
 }
 
 fn settle<R: Files + Env + AllocGlobal, W: Write, E: Write>(
-    rt: &R,
-    out: &mut W,
-    err: &mut E,
-    a: Asked,
-    container: &[u8],
-    store: &[u8],
-    call: &[u8],
-    loader: &[u8],
+    console: &mut Console<R, W, E>,
+    asked: Asked,
+    input: Input,
 ) -> io::Result<()> {
-    let p = calls::cut(call);
-    match p {
-        Parted::Short => said::complain(err, b"CALL", b"ends before its counts say"),
-        Parted::Long => said::complain(err, b"CALL", b"has bytes after the preload"),
-        Parted::Call(h) => with_log(rt, out, err, a, h, container, store, loader, call),
+    match calls::cut(input.call) {
+        Ok(head) => with_log(console, asked, head, input),
+        Err(CutError::Short) => said::complain(console.err, b"CALL", b"ends before its counts say"),
+        Err(CutError::Long) => said::complain(console.err, b"CALL", b"has bytes after the preload"),
     }
 }
 
 fn with_files<R: Files + Env + AllocGlobal, W: Write, E: Write>(
-    rt: &R,
-    out: &mut W,
-    err: &mut E,
-    a: Asked,
+    console: &mut Console<R, W, E>,
+    asked: Asked,
 ) -> io::Result<()> {
     let mut container = [0u8; 262144];
     let mut store = [0u8; 163840];
     let mut call = [0u8; 114708];
     let mut loader = [0u8; 163840];
-    let Loaded::Bytes(c) = files::load(rt, err, a.container, &mut container)? else {
+    let Some(container) = files::load(console.rt, console.err, asked.container, &mut container)?
+    else {
         return Ok(());
     };
-    let Loaded::Bytes(s) = files::load(rt, err, a.store, &mut store)? else {
+    let Some(store) = files::load(console.rt, console.err, asked.store, &mut store)? else {
         return Ok(());
     };
-    let Loaded::Bytes(k) = files::load(rt, err, a.call, &mut call)? else {
+    let Some(call) = files::load(console.rt, console.err, asked.call, &mut call)? else {
         return Ok(());
     };
-    let Loaded::Bytes(l) = files::load_any(rt, err, a.loader, &mut loader)? else {
+    let Some(loader) = files::load_any(console.rt, console.err, asked.loader, &mut loader)? else {
         return Ok(());
     };
-    settle(
-        rt,
-        out,
-        err,
-        a,
-        first(&container, c),
-        first(&store, s),
-        first(&call, k),
-        first(&loader, l),
-    )
+    let input = Input {
+        container,
+        store,
+        call,
+        loader,
+    };
+    settle(console, asked, input)
 }
 
 fn main(rt: HostRuntime) -> io::Result<()> {
     let mut err = rt.stderr();
     // A whole line is written at once, so a complaint comes behind the lines before it.
     let mut out = LineWriter::new(rt.alloc(), io::writer(&rt))?;
-    let a = args::read(&rt, &mut err)?;
-    if a.ok {
-        with_files(&rt, &mut out, &mut err, a)?;
+    if let Some(asked) = args::read(&rt, &mut err)? {
+        let mut console = Console {
+            rt: &rt,
+            out: &mut out,
+            err: &mut err,
+        };
+        with_files(&mut console, asked)?;
     }
     out.flush()
 }

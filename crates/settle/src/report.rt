@@ -23,13 +23,8 @@ pub fn answer<W: Write>(out: &mut W, a: Answer, limit: u64) -> io::Result<()> {
 pub fn changes<W: Write>(out: &mut W, t: &[u8], n: usize) -> io::Result<()> {
     crate::said::count(out, b"changes", n as u64)?;
     let mut line = [0u8; LINE];
-    for i in 0..n {
-        if t.len() / 40 <= i {
-            break;
-        }
-        let at = i * 40;
-        let end = at + 40;
-        let k = lines::answer::change_line(&mut line, &t[at..end]);
+    for row in t.as_chunks::<40>().0.iter().take(n) {
+        let k = lines::answer::change_line(&mut line, row);
         crate::said::line(out, &line, k)?;
     }
     Ok(())

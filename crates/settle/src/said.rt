@@ -1,5 +1,4 @@
 // Lines on standard output, and complaints on standard error.
-use print::parts::first;
 use std::alloc::Global;
 use std::io;
 use std::io::Write;
@@ -21,8 +20,10 @@ pub fn failed<E: Write>(
     refusal: &io::Error,
 ) -> io::Result<()> {
     let text = refusal.to_string(alloc)?;
-    let n = text.find(" (os error ").unwrap_or(text.len());
-    complain(err, what, first(text.as_bytes(), n))
+    let why = text
+        .split_once(" (os error ")
+        .map_or(text.as_str(), |parts| parts.0);
+    complain(err, what, why.as_bytes())
 }
 
 // The first n bytes and the line's end.

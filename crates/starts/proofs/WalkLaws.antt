@@ -1,5 +1,5 @@
 -- What holds of every reading of the code: its starts lie in the code, and few enough indexes never are too many. Assumes nothing.
-use Rattle.std.specs.Prelude.{◌≡◌, refl, Bool, true, false, List, ℕ, zero, suc, ◌+◌, ◌*◌, ◌/◌, ◌%◌, ◌^◌, ◌≤◌, ◌<◌, leb, ltb, length, replicate}
+use Rattle.std.specs.Prelude.{◌≡◌, refl, Bool, true, false, List, ℕ, zero, suc, ◌+◌, ◌*◌, ◌/◌, ◌%◌, ◌^◌, ◌≤◌, ◌<◌, leb, ltb, length, replicate, Result, Ok, Err}
 use Rattle.std.proofs.Common.{sym, ◌∙◌, arith, leb-false, ltb-true, ltb-false, ne_eqb}
 use Rattle.std.proofs.Math.Nat.{zero-div}
 use Rattle.std.proofs.lemmas.List.{length-replicate, get_or-replicate}
@@ -8,21 +8,19 @@ use Rattle.words.specs.Lists.{member}
 use Rattle.isa.specs.Codec.{decode_at}
 use Rattle.isa.specs.declared.instr.Instr.{Instr}
 use Rattle.isa.specs.declared.codec.DecodeError.{DecodeError}
-use Rattle.isa.specs.declared.codec.Decoded.{Decoded}
-use Rattle.isa.specs.declared.codec.Decoded.TheVariants.{Done, Refused}
 use Rattle.starts.specs.Walk.{Walk, ended, met, unless_bad, walk_by, walk, walk_of}
 use Rattle.isa.specs.Refers.{refers_to}
 use Rattle.starts.specs.Marks.{marked, Marks, Holds}
 use Rattle.starts.specs.MarkLaws.{past_map}
 use Rattle.isa.specs.declared.flow.Refers.{Refers}
 use Rattle.isa.specs.declared.flow.Refers.TheVariants.{Const, Target, Nothing}
-use Rattle.starts.specs.declared.scan_answers.Scan.TheVariants.{Whole, Undecodable, BadConst}
+use Rattle.starts.specs.declared.scan_answers.ScanError.TheVariants as ScanError
 
 -- what holds where a reading stops, and is kept by each instruction met, holds of every reading
 pub record Kept (code : List ℕ) (consts : ℕ) (P : Walk → Type 0) : Type 0 where
-  pub whole : P (ended Whole)
-  pub refused : (place : ℕ) (e : DecodeError) → P (ended (Undecodable place e))
-  pub more : (place : ℕ) (i : Instr) (n : ℕ) → place < length code → decode_at code place ≡ Done i n → (w : Walk) → P w →
+  pub whole : P (ended (Ok tt))
+  pub refused : (place : ℕ) (e : DecodeError) → P (ended (Err (ScanError.Undecodable place e)))
+  pub more : (place : ℕ) (i : Instr) (n : ℕ) → place < length code → decode_at code place ≡ Ok (i, n) → (w : Walk) → P w →
       P (met place (unless_bad (refers_to i) consts w))
 
 pub walk_keeps : (code : List ℕ) (consts : ℕ) (P : Walk → Type 0) → Kept code consts P → (t place : ℕ) → P (walk t code consts place)
@@ -30,18 +28,18 @@ unfolding walk walk_by
 walk_keeps code consts P k zero place = k.whole
 walk_keeps code consts P k (suc t) place = by (leb (length code) place) refl (decode_at code place) refl (λ next. walk_keeps code consts P k t next)
   where
-    by : (b : Bool) → leb (length code) place ≡ b → (d : Decoded) → decode_at code place ≡ d → ((next : ℕ) → P (walk t code consts next)) →
-        P (pick b (ended Whole) (walk_by d consts place (λ next. walk t code consts next)))
+    by : (b : Bool) → leb (length code) place ≡ b → (d : Result (Instr × ℕ) DecodeError) → decode_at code place ≡ d → ((next : ℕ) → P (walk t code consts next)) →
+        P (pick b (ended (Ok tt)) (walk_by d consts place (λ next. walk t code consts next)))
     by true q d e ih = k.whole
-    by false q (Refused x) e ih = k.refused place x
-    by false q (Done i n) e ih = k.more place i n (leb-false (length code) place q) e (walk t code consts (place + n)) (ih (place + n))
+    by false q (Err x) e ih = k.refused place x
+    by false q (Ok (i, n)) e ih = k.more place i n (leb-false (length code) place q) e (walk t code consts (place + n)) (ih (place + n))
 
 -- a bad constant only takes starts away
 fewer : (r : Refers) (consts p : ℕ) (w : Walk) → member p w.starts ≡ false → member p (unless_bad r consts w).starts ≡ false
 unfolding unless_bad ended member
 fewer (Const k) consts p w h = by (ltb k consts)
   where
-    by : (b : Bool) → member p (pick b w (ended (BadConst k))).starts ≡ false
+    by : (b : Bool) → member p (pick b w (ended (Err (ScanError.BadConst k)))).starts ≡ false
     by true = h
     by false = refl
 fewer (Target t) consts p w h = h

@@ -5,7 +5,6 @@ use Rattle.std.proofs.Math.Nat.{zero-div}
 use Rattle.std.specs.Int.Bits.{bit_or}
 use Rattle.std.proofs.lemmas.Nat.{or_shr, or_mod}
 use Rattle.std.proofs.Math.ListN.{get_or-eq_default}
-use Rattle.std.proofs.Math.Seq.{set_out}
 use Rattle.std.proofs.lemmas.Bool.{eqb-false}
 use Rattle.words.specs.Choice.{both, either, bit}
 use Rattle.starts.specs.Marks.{marked, mark_in}
@@ -69,15 +68,6 @@ mark_at map q p h = by (eqb (q / 8) (p / 8)) refl
         let n : q / 8 ≡ p / 8 → ⊥ = eqb-false (q / 8) (p / 8) e in
         rw (get_or-set_other map (q / 8) (p / 8) (bit_or (get_or map (q / 8) 0) (2 ^ (q % 8))) 0 (λ z. n (sym z)), ne_eqb q p (λ z. n (ap (λ (m : ℕ). m / 8) z)))
 
--- a place past the map is neither marked nor found marked
-pub mark_past : (map : List ℕ) (p : ℕ) → length map ≤ p / 8 → map ≡ mark_in map p
-unfolding mark_in
-mark_past map p h = sym (set_out map (p / 8) (bit_or (get_or map (p / 8) 0) (2 ^ (p % 8))) h)
-
 pub past_map : (map : List ℕ) (p : ℕ) → length map ≤ p / 8 → false ≡ marked map p
 unfolding marked
 past_map map p h = rw (get_or-eq_default map 0 h, zero-div (2 ^ (p % 8)))
-
--- a bit of a byte
-pub one_shifted : (p : ℕ) → 1 * 2 ^ (p % 8) % 256 ≡ 2 ^ (p % 8)
-one_shifted p = eqb-true _ _ (below 8 (λ (j : ℕ). eqb (1 * 2 ^ j % 256) (2 ^ j)) refl (p % 8) (omega arith))

@@ -10,6 +10,7 @@ fn bit_of(place: usize) -> u8
 }
 
 // Marks a place; one past the map is left out.
+#[tactic(auto, unfolding(crate::specs::Marks::mark_in))]
 pub fn mark(map: &mut [u8], place: usize)
     ensures { map.new ≡ mark_in map.old place }
 {
@@ -20,6 +21,7 @@ pub fn mark(map: &mut [u8], place: usize)
 }
 
 // Whether a place is marked.
+#[tactic(auto, unfolding(crate::specs::Marks::marked))]
 pub fn is_start(map: &[u8], place: u64) -> bool
     ensures { result ≡ marked map.now place }
 {

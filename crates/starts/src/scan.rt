@@ -3,44 +3,42 @@ ghost use Rattle.std.specs.Prelude.{◌≡◌};
 ghost use Rattle.starts.specs.Walk.{walk_of, index_of};
 ghost use Rattle.starts.specs.Marks.{Marks};
 
-use super::scan_answers::{Scan, Stands};
-use isa::codec::Decoded;
+use super::scan_answers::ScanError;
 use isa::flow::Refers;
 
-fn index_of(r: Refers, consts: u64) -> Stands
+#[tactic(auto, unfolding(crate::specs::Walk::index_of))]
+fn index_of(r: Refers, consts: u64) -> Result<(), u64>
     ensures { result ≡ index_of r consts }
 {
     match r {
         Refers::Const(k) => {
             if k < consts {
-                return Stands::Yes;
+                return Ok(());
             }
-            Stands::No(k)
+            Err(k)
         }
-        Refers::Target(_) => Stands::Yes,
-        Refers::Nothing => Stands::Yes,
+        Refers::Target(_) => Ok(()),
+        Refers::Nothing => Ok(()),
     }
 }
 
 // Reads the code from 0 on and marks each start; stops where no instruction stands or a constant's index is bad.
-pub fn scan(code: &[u8], consts: u64, map: &mut [u8]) -> Scan
+pub fn scan(code: &[u8], consts: u64, map: &mut [u8]) -> Result<(), ScanError>
     ensures answer { result ≡ (walk_of code.now consts).end }
     ensures map { Marks map.old (walk_of code.now consts).starts map.new }
 {
     let mut place = 0;
+    // No plainer: a turn goes as far as its instruction, which no range counts.
     while place < code.len() {
-        let d = isa::codec::decode(code, place);
-        let Decoded::Done(i, n) = d else {
-            let Decoded::Refused(e) = d else {
-                return Scan::Whole;
-            };
-            return Scan::Undecodable(place, e);
+        let (i, n) = match isa::codec::decode(code, place) {
+            Ok(decoded) => decoded,
+            Err(e) => return Err(ScanError::Undecodable(place, e)),
         };
         super::marks::mark(map, place);
-        if let Stands::No(k) = index_of(i.refers(), consts) {
-            return Scan::BadConst(k);
+        if let Err(k) = index_of(i.refers(), consts) {
+            return Err(ScanError::BadConst(k));
         }
         place += n;
     }
-    Scan::Whole
+    Ok(())
 }

@@ -1,17 +1,9 @@
 // What a reading of the code answers.
 use isa::codec::DecodeError;
 
-// Whether what an instruction refers to is there; if not, its number.
-#[derive(Clone, Copy)]
-pub enum Stands {
-    Yes,
-    No(u64),
-}
-
-// How a reading of the code ended.
-#[derive(Clone, Copy)]
-pub enum Scan {
-    Whole,
+// Where a reading of the code stopped before its end.
+#[derive(Clone, Copy, Debug, PartialEq, Eq)]
+pub enum ScanError {
     Undecodable(usize, DecodeError),
     BadConst(u64),
 }

@@ -1,4 +1,5 @@
 -- definitions
+pub mod Faults
 pub mod Alu
 pub mod Regs
 pub mod Memory
@@ -11,8 +12,8 @@ pub mod RegsLaws
 pub mod RegionLaws
 pub mod MemoryLaws
 pub mod StackLaws
-pub mod BenchLaws
 -- theorems
 pub mod RegsTheorems
+pub mod FaultTheorems
 pub mod StackTheorems
 pub mod BenchTheorems

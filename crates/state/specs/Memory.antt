@@ -1,20 +1,16 @@
 -- Memory: what lies inside, and what loads and stores do (document 01, Numbers returned: 6; numbers are big-endian).
-use Rattle.std.specs.Prelude.{◌≡◌, ℕ, ◌+◌, Bool, true, List, length, take, drop, nat_le}
+use Rattle.std.specs.Prelude.{◌≡◌, ℕ, ◌+◌, Bool, true, List, length, take, drop, nat_le, Option, Some, None}
 use Rattle.std.proofs.Math.Seq.{paste}
 use Rattle.words.specs.Bytes.{num, be_bytes}
 use Rattle.words.specs.Choice.{pick}
-use Rattle.state.specs.declared.memory.Region.{Region}
-use Rattle.state.specs.declared.memory.Region.TheVariants.{Part, Outside}
-use Rattle.state.specs.declared.memory.Load.{Load}
-use Rattle.state.specs.declared.memory.Load.TheVariants.{Word, BadMemory}
 
 -- whether len bytes from offset lie within size bytes
 abbrev pub inside : (size offset len : ℕ) → Bool
 inside size offset len = nat_le (offset + len) size
 
 -- where a region starts and ends
-abbrev pub region_of : (size offset len : ℕ) → Region
-region_of size offset len = pick (inside size offset len) (Part offset (offset + len)) Outside
+abbrev pub region_of : (size offset len : ℕ) → Option (ℕ × ℕ)
+region_of size offset len = pick (inside size offset len) (Some (offset, offset + len)) None
 
 -- a part is inside, from its offset on
 pub record PartFound (size offset len start end : ℕ) : Type 0 where
@@ -23,8 +19,8 @@ pub record PartFound (size offset len start end : ℕ) : Type 0 where
   pub stop : end ≡ offset + len
 
 -- the word of the eight bytes at a place
-abbrev pub load_of : List ℕ → ℕ → Load
-load_of mem offset = pick (inside (length mem) offset 8) (Word (num (take 8 (drop offset mem)))) BadMemory
+abbrev pub load_of : List ℕ → ℕ → Option ℕ
+load_of mem offset = pick (inside (length mem) offset 8) (Some (num (take 8 (drop offset mem)))) None
 
 -- memory after a word is stored, and after bytes are written, at a place; the same where they do not lie inside
 unfoldable pub stored_at : List ℕ → (offset v : ℕ) → List ℕ

@@ -1,13 +1,11 @@
 -- The register file and its operations (document 01, The run and What changes shape here).
-use Rattle.std.specs.Prelude.{◌≡◌, ℕ, ◌+◌, ◌-◌, ◌*◌, ◌/◌, ◌%◌, ◌^◌, List, replicate, ◌==◌, ◌≢◌, slice_index, slice_set}
+use Rattle.std.specs.Prelude.{◌≡◌, ℕ, ◌+◌, ◌-◌, ◌*◌, ◌/◌, ◌%◌, ◌^◌, List, replicate, ◌==◌, ◌≢◌, slice_index, slice_set, Result, Ok, Err, None, Some}
 use Rattle.words.specs.Choice.{pick}
 use Rattle.words.specs.Wide.{wide}
 use Rattle.isa.specs.declared.instr.Instr.{Instr}
 use Rattle.isa.specs.declared.instr.Instr.TheVariants as instr
 use Rattle.state.specs.declared.alu.Op.{Op}
 use Rattle.state.specs.declared.alu.Op.TheVariants as op
-use Rattle.state.specs.declared.alu.Value.{Value}
-use Rattle.state.specs.declared.alu.Value.TheVariants.{Done, Fault}
 use Rattle.state.specs.declared.alu.Wanted.{Wanted}
 use Rattle.state.specs.declared.alu.Wanted.TheVariants.{Quotient, Rest}
 use Rattle.state.specs.declared.regs.Outcome.{Outcome}
@@ -15,6 +13,8 @@ use Rattle.state.specs.declared.regs.Outcome.TheVariants as outcome
 use Rattle.state.specs.declared.regs.RegFile.{RegFile}
 use Rattle.state.specs.declared.regs.Stepped.{Stepped}
 use Rattle.state.specs.Alu.{alu_of, part_of}
+use Rattle.state.specs.declared.fault.Fault.{Fault}
+use Rattle.state.specs.declared.fault.Fault.TheVariants.{DivByZero, NotRegister}
 
 -- the file of a list of registers
 abbrev pub file : List ℕ → RegFile
@@ -33,19 +33,19 @@ set_reg f i v = file (slice_set f.r i v)
 
 -- a step that is done, and one that faults and leaves the file
 abbrev pub done : RegFile → Stepped
-done f = record { file = f; fault = 0 }
+done f = record { file = f; fault = None }
 
-abbrev pub refused : RegFile → ℕ → Stepped
-refused f n = record { file = f; fault = n }
+abbrev pub refused : RegFile → Fault → Stepped
+refused f n = record { file = f; fault = Some n }
 
 -- what faults leaves the file as it was
 abbrev pub FaultKeeps : RegFile → Stepped → Type 0
-FaultKeeps f s = (s.fault ≢ 0) → s.file ≡ f
+FaultKeeps f s = (s.fault ≢ None) → s.file ≡ f
 
 -- a value put into a register
-abbrev pub put_value : RegFile → ℕ → Value → Stepped
-put_value f d (Done v) = done (set_reg f d v)
-put_value f d (Fault n) = refused f n
+abbrev pub put_value : RegFile → ℕ → Result ℕ Fault → Stepped
+put_value f d (Ok v) = done (set_reg f d v)
+put_value f d (Err n) = refused f n
 
 -- two registers as one number, and a number put into two, the low word first
 abbrev pub wide_reg : RegFile → (lo hi : ℕ) → ℕ
@@ -55,10 +55,10 @@ abbrev pub set_wide : RegFile → (lo hi v : ℕ) → RegFile
 set_wide f lo hi v = set_reg (set_reg f lo (v % 2 ^ 64)) hi (v / 2 ^ 64)
 
 -- the step of an outcome
-abbrev pub applied : RegFile → Outcome → Stepped
-applied f (outcome.Put d v) = done (set_reg f d v)
-applied f (outcome.PutWide lo hi w) = done (set_wide f lo hi (wide w))
-applied f (outcome.Fault n) = refused f n
+abbrev pub applied : RegFile → Result Outcome Fault → Stepped
+applied f (Ok (outcome.Put d v)) = done (set_reg f d v)
+applied f (Ok (outcome.PutWide lo hi w)) = done (set_wide f lo hi (wide w))
+applied f (Err n) = refused f n
 
 -- an operation on two registers
 abbrev pub rule_two : Op → RegFile → (d a b : ℕ) → Stepped
@@ -66,19 +66,19 @@ rule_two o f d a b = put_value f d (alu_of o (reg f a) (reg f b))
 
 -- a number put into two registers over a divisor that must not be 0
 abbrev pub over_wide : RegFile → (lo hi d v : ℕ) → Stepped
-over_wide f lo hi d v = pick (d == 0) (refused f 3) (done (set_wide f lo hi v))
+over_wide f lo hi d v = pick (d == 0) (refused f DivByZero) (done (set_wide f lo hi v))
 
 -- a division of two words by two
 abbrev pub rule_wide : Wanted → RegFile → (dlo dhi alo ahi blo bhi : ℕ) → Stepped
 rule_wide w f dlo dhi alo ahi blo bhi = over_wide f dlo dhi (wide_reg f blo bhi) (part_of w (wide_reg f alo ahi) (wide_reg f blo bhi))
 
--- what an instruction does to the registers; 50 where it is no register operation
+-- what an instruction does to the registers; NotRegister where it is no register operation
 unfoldable pub register_step : Instr → RegFile → Stepped
-register_step instr.Halt f = refused f 50
-register_step instr.Nop f = refused f 50
+register_step instr.Halt f = refused f NotRegister
+register_step instr.Nop f = refused f NotRegister
 register_step (instr.Mov d a) f = done (set_reg f d (reg f a))
 register_step (instr.Ldi d imm) f = done (set_reg f d imm)
-register_step (instr.Ldc d idx) f = refused f 50
+register_step (instr.Ldc d idx) f = refused f NotRegister
 register_step (instr.Add d a b) f = rule_two op.Add f d a b
 register_step (instr.Sub d a b) f = rule_two op.Sub f d a b
 register_step (instr.Mul d a b) f = rule_two op.Mul f d a b
@@ -99,21 +99,21 @@ register_step (instr.Shr d a b) f = rule_two op.Shr f d a b
 register_step (instr.Eq d a b) f = rule_two op.Eq f d a b
 register_step (instr.LtU d a b) f = rule_two op.LtU f d a b
 register_step (instr.GtU d a b) f = rule_two op.GtU f d a b
-register_step (instr.Push a) f = refused f 50
-register_step (instr.Pop d) f = refused f 50
-register_step (instr.MLoad d a) f = refused f 50
-register_step (instr.MStore a b) f = refused f 50
-register_step (instr.Jmp target) f = refused f 50
-register_step (instr.Jz a target) f = refused f 50
-register_step (instr.Jnz a target) f = refused f 50
-register_step (instr.Call target) f = refused f 50
-register_step instr.Ret f = refused f 50
-register_step (instr.SLoad d a) f = refused f 50
-register_step (instr.SStore a b) f = refused f 50
-register_step (instr.Send a b c) f = refused f 50
-register_step (instr.Emit a b c) f = refused f 50
-register_step (instr.Hash a b c) f = refused f 50
-register_step (instr.VerifyMl a b c) f = refused f 50
-register_step (instr.VerifySlh a b c) f = refused f 50
-register_step (instr.MerkleVerify a b c) f = refused f 50
-register_step (instr.Addr a b c) f = refused f 50
+register_step (instr.Push a) f = refused f NotRegister
+register_step (instr.Pop d) f = refused f NotRegister
+register_step (instr.MLoad d a) f = refused f NotRegister
+register_step (instr.MStore a b) f = refused f NotRegister
+register_step (instr.Jmp target) f = refused f NotRegister
+register_step (instr.Jz a target) f = refused f NotRegister
+register_step (instr.Jnz a target) f = refused f NotRegister
+register_step (instr.Call target) f = refused f NotRegister
+register_step instr.Ret f = refused f NotRegister
+register_step (instr.SLoad d a) f = refused f NotRegister
+register_step (instr.SStore a b) f = refused f NotRegister
+register_step (instr.Send a b c) f = refused f NotRegister
+register_step (instr.Emit a b c) f = refused f NotRegister
+register_step (instr.Hash a b c) f = refused f NotRegister
+register_step (instr.VerifyMl a b c) f = refused f NotRegister
+register_step (instr.VerifySlh a b c) f = refused f NotRegister
+register_step (instr.MerkleVerify a b c) f = refused f NotRegister
+register_step (instr.Addr a b c) f = refused f NotRegister

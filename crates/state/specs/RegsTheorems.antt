@@ -1,18 +1,18 @@
 -- What a reader may cite of the register operations. Assumes nothing.
-use Rattle.std.specs.Prelude.{◌≡◌, ℕ, ◌/◌, ◌%◌, ◌^◌, ◌<◌, Bool, true, false, length, ◌==◌, slice_set, refl}
+use Rattle.std.specs.Prelude.{◌≡◌, ℕ, ◌/◌, ◌%◌, ◌^◌, ◌<◌, Bool, true, false, length, ◌==◌, slice_set, refl, Result, Ok, Err}
 use Rattle.std.proofs.Common.{get_or-set_same, lt-length-set}
 use Rattle.words.specs.Choice.{pick}
 use Rattle.isa.specs.declared.instr.Instr.{Instr}
 use Rattle.isa.specs.declared.instr.Instr.TheVariants as instr
 use Rattle.state.specs.declared.alu.Op.{Op}
 use Rattle.state.specs.declared.alu.Op.TheVariants as op
-use Rattle.state.specs.declared.alu.Value.{Value}
-use Rattle.state.specs.declared.alu.Value.TheVariants.{Done, Fault}
 use Rattle.state.specs.declared.alu.Wanted.{Wanted}
 use Rattle.state.specs.declared.alu.Wanted.TheVariants.{Quotient, Rest}
 use Rattle.state.specs.declared.regs.RegFile.{RegFile}
 use Rattle.state.specs.Alu.{alu_of}
 use Rattle.state.specs.Regs.{FaultKeeps, reg, set_reg, set_wide, done, refused, put_value, wide_reg, rule_two, rule_wide, register_step}
+use Rattle.state.specs.declared.fault.Fault.{Fault}
+use Rattle.state.specs.declared.fault.Fault.TheVariants.{DivByZero}
 
 -- with one register for both words the high one stays
 pub high_stays : (f : RegFile) (d v : ℕ) → d < length f.r → reg (set_wide f d d v) d ≡ v / 2 ^ 64
@@ -22,11 +22,11 @@ high_stays f d v h = get_or-set_same (slice_set f.r d (v % 2 ^ 64)) d (v / 2 ^ 6
 done_keeps : (f g : RegFile) → FaultKeeps f (done g)
 done_keeps f g n = absurd (n refl)
 
-put_keeps : (f : RegFile) (d : ℕ) (v : Value) → FaultKeeps f (put_value f d v)
-put_keeps f d (Done v) = done_keeps f (set_reg f d v)
-put_keeps f d (Fault k) = λ n. refl
+put_keeps : (f : RegFile) (d : ℕ) (v : Result ℕ Fault) → FaultKeeps f (put_value f d v)
+put_keeps f d (Ok v) = done_keeps f (set_reg f d v)
+put_keeps f d (Err k) = λ n. refl
 
-pick_keeps : (t : Bool) (f g : RegFile) → FaultKeeps f (pick t (refused f 3) (done g))
+pick_keeps : (t : Bool) (f g : RegFile) → FaultKeeps f (pick t (refused f DivByZero) (done g))
 pick_keeps true f g = λ n. refl
 pick_keeps false f g = done_keeps f g
 

@@ -1,9 +1,9 @@
 // The values of operations on words.
 ghost use Rattle.std.specs.Prelude.{◌≡◌, ◌+◌, ◌*◌, ◌<◌};
-ghost use Rattle.words.specs.Choice.{bit};
 ghost use Rattle.words.specs.Wide.{wide};
 ghost use Rattle.state.specs.Alu.{word, difference, over, part_of, alu_of};
 
+use super::fault::Fault;
 use words::product::Wide;
 
 // The operations on two registers.
@@ -28,13 +28,6 @@ pub enum Op {
     GtU,
 }
 
-// What an operation gives: a word, or the number of its fault.
-#[derive(Clone, Copy)]
-pub enum Value {
-    Done(u64),
-    Fault(u64),
-}
-
 // What is wanted of a division.
 #[derive(Clone, Copy)]
 pub enum Wanted {
@@ -42,54 +35,50 @@ pub enum Wanted {
     Rest,
 }
 
-fn add(x: u64, y: u64) -> Value
+fn add(x: u64, y: u64) -> Result<u64, Fault>
     ensures { result ≡ word (x + y) }
 {
     if x <= u64::MAX - y {
-        return Value::Done(x + y);
+        return Ok(x + y);
     }
-    Value::Fault(2)
+    Err(Fault::Overflow)
 }
 
-fn sub(x: u64, y: u64) -> Value
+fn sub(x: u64, y: u64) -> Result<u64, Fault>
     ensures { result ≡ difference x y }
 {
     if y <= x {
-        return Value::Done(x - y);
+        return Ok(x - y);
     }
-    Value::Fault(2)
+    Err(Fault::Overflow)
 }
 
-fn mul(x: u64, y: u64) -> Value
+#[tactic(auto, using(crate::specs::AluLaws::product_word, crate::specs::AluLaws::product_past))]
+fn mul(x: u64, y: u64) -> Result<u64, Fault>
     ensures { result ≡ word (x * y) }
 {
     let p = words::product::product(x, y);
     if p.hi == 0 {
-        return Value::Done(p.lo);
+        return Ok(p.lo);
     }
-    Value::Fault(2)
+    Err(Fault::Overflow)
 }
 
-fn divide(want: Wanted, x: u64, y: u64) -> Value
+fn divide(want: Wanted, x: u64, y: u64) -> Result<u64, Fault>
     ensures { result ≡ over y (part_of want x y) }
 {
     if y == 0 {
-        return Value::Fault(3);
+        return Err(Fault::DivByZero);
     }
     match want {
-        Wanted::Quotient => Value::Done(x / y),
-        Wanted::Rest => Value::Done(x % y),
+        Wanted::Quotient => Ok(x / y),
+        Wanted::Rest => Ok(x % y),
     }
-}
-
-fn flag(t: bool) -> u64
-    ensures { result ≡ bit t }
-{
-    if t { 1 } else { 0 }
 }
 
 // The value of an operation on two words.
-pub fn alu(op: Op, x: u64, y: u64) -> Value
+#[tactic(auto, unfolding(crate::specs::Alu::alu_of))]
+pub fn alu(op: Op, x: u64, y: u64) -> Result<u64, Fault>
     ensures { result ≡ alu_of op x y }
 {
     match op {
@@ -98,18 +87,18 @@ pub fn alu(op: Op, x: u64, y: u64) -> Value
         Op::Mul => mul(x, y),
         Op::Div => divide(Wanted::Quotient, x, y),
         Op::Rem => divide(Wanted::Rest, x, y),
-        Op::AddW => Value::Done(std::num::wrapping_add_u64(x, y)),
-        Op::SubW => Value::Done(std::num::wrapping_sub_u64(x, y)),
-        Op::MulW => Value::Done(words::product::wrapping_mul(x, y)),
-        Op::MulHi => Value::Done(words::product::high_product(x, y)),
-        Op::And => Value::Done(x & y),
-        Op::Or => Value::Done(x | y),
-        Op::Xor => Value::Done(x ^ y),
-        Op::Shl => Value::Done(x << (y % 64)),
-        Op::Shr => Value::Done(x >> (y % 64)),
-        Op::Eq => Value::Done(flag(x == y)),
-        Op::LtU => Value::Done(flag(x < y)),
-        Op::GtU => Value::Done(flag(y < x)),
+        Op::AddW => Ok(x.wrapping_add(y)),
+        Op::SubW => Ok(x.wrapping_sub(y)),
+        Op::MulW => Ok(words::product::wrapping_mul(x, y)),
+        Op::MulHi => Ok(words::product::high_product(x, y)),
+        Op::And => Ok(x & y),
+        Op::Or => Ok(x | y),
+        Op::Xor => Ok(x ^ y),
+        Op::Shl => Ok(x << (y % 64)),
+        Op::Shr => Ok(x >> (y % 64)),
+        Op::Eq => Ok(u64::from(x == y)),
+        Op::LtU => Ok(u64::from(x < y)),
+        Op::GtU => Ok(u64::from(y < x)),
     }
 }
 

@@ -2,26 +2,32 @@
 ghost use Rattle.std.specs.Prelude.{◌≡◌};
 ghost use Rattle.state.specs.Bench.{bench_of};
 
+use super::fault::Fault;
 use super::regs::{RegFile, Stepped};
-use isa::codec::FirstBad;
+use isa::codec::DecodeError;
 use isa::instr::Instr;
 
-// The file after a register operation, or the file as it was and the number of the refusal.
+// The file after a register operation, or the file as it was and the refusal.
 pub fn bench_by_value(file: RegFile, i: Instr) -> Stepped
     ensures { result ≡ bench_of i file }
 {
-    let op = i.opcode();
-    if !op.is_register_op() {
-        return Stepped { file, fault: 50 };
+    if !i.opcode().is_register_op() {
+        return Stepped {
+            file,
+            fault: Some(Fault::NotRegister),
+        };
     }
-    if let FirstBad::Bad(_) = isa::codec::bad_register(i) {
-        return Stepped { file, fault: 16 };
+    if let Some(b) = isa::codec::bad_register(i) {
+        return Stepped {
+            file,
+            fault: Some(Fault::Decode(DecodeError::BadRegister(b))),
+        };
     }
     file.step(i)
 }
 
 // The same on a file that is lent: it holds what the operation hands back, or stays as it was where the step is refused.
-pub fn bench_step(file: &mut RegFile, i: Instr) -> u64
+pub fn bench_step(file: &mut RegFile, i: Instr) -> Option<Fault>
     ensures { record { file = file.exit.now; fault = result } ≡ bench_of i file.entry.now }
 {
     let f = *file;

@@ -3,6 +3,7 @@
 
 pub mod alu;
 pub mod bench;
+pub mod fault;
 pub mod memory;
 pub mod regs;
 pub mod stack;

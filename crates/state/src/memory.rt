@@ -1,68 +1,54 @@
 // Memory, a lent slice: what lies outside it is judged by its own length.
-ghost use Rattle.std.specs.Prelude.{◌≡◌, length};
+ghost use Rattle.std.specs.Prelude.{◌≡◌, true, false, length, take, drop, MatchOption};
 ghost use Rattle.state.specs.Memory.{inside, region_of, load_of, stored_at, written_at};
 
-// Where a region starts and ends.
-#[derive(Clone, Copy)]
-pub enum Region {
-    Part(usize, usize),
-    Outside,
-}
-
-#[derive(Clone, Copy)]
-pub enum Load {
-    Word(u64),
-    BadMemory,
-}
-
-pub fn mem_region(mem: &[u8], offset: u64, len: u64) -> Region
+pub fn mem_region(mem: &[u8], offset: u64, len: u64) -> Option<(usize, usize)>
     ensures { result ≡ region_of (length mem.now) offset len }
 {
     let size = mem.len() as u64;
     if size < len {
-        return Region::Outside;
+        return None;
     }
     if size - len < offset {
-        return Region::Outside;
+        return None;
     }
     let end = offset + len;
-    Region::Part(offset as usize, end as usize)
+    Some((offset as usize, end as usize))
 }
 
-pub fn mem_load(mem: &[u8], offset: u64) -> Load
+// The 32 bytes of a key at a place.
+pub fn mem_key(mem: &[u8], offset: u64) -> Option<&[u8; 32]>
+    ensures { MatchOption result (inside (length mem.now) offset 32 ≡ false)
+        (λ key. (inside (length mem.now) offset 32 ≡ true) × (key.now ≡ take 32 (drop offset mem.now))) }
+{
+    mem.get(offset as usize..)?.first_chunk()
+}
+
+pub fn mem_load(mem: &[u8], offset: u64) -> Option<u64>
     ensures { result ≡ load_of mem.now offset }
 {
-    let place = mem_region(mem, offset, 8);
-    match place {
-        Region::Part(start, _) => Load::Word(words::bytes::read(mem, start, 8)),
-        Region::Outside => Load::BadMemory,
-    }
+    let (start, _) = mem_region(mem, offset, 8)?;
+    Some(words::bytes::read(mem, start, 8))
 }
 
 pub fn mem_store(mem: &mut [u8], offset: u64, v: u64) -> bool
     ensures answer { result ≡ inside (length mem.old) offset 8 }
     ensures contents { mem.new ≡ stored_at mem.old offset v }
 {
-    let region = mem_region(mem, offset, 8);
-    match region {
-        Region::Part(start, _) => {
-            words::bytes::write(mem, start, 8, v);
-            true
-        }
-        Region::Outside => false,
-    }
+    let Some((start, _)) = mem_region(mem, offset, 8) else {
+        return false;
+    };
+    words::bytes::write(mem, start, 8, v);
+    true
 }
 
 pub fn mem_write(mem: &mut [u8], offset: u64, bytes: &[u8]) -> bool
     ensures answer { result ≡ inside (length mem.old) offset (length bytes.now) }
     ensures contents { mem.new ≡ written_at mem.old offset bytes.now }
 {
-    let region = mem_region(mem, offset, bytes.len() as u64);
-    match region {
-        Region::Part(start, _) => {
-            words::bytes::copy_in(mem, start, bytes);
-            true
-        }
-        Region::Outside => false,
-    }
+    let Some((start, _)) = mem_region(mem, offset, bytes.len() as u64) else {
+        return false;
+    };
+    words::bytes::copy_in(mem, start, bytes);
+    true
 }

@@ -3,7 +3,8 @@ ghost use Rattle.std.specs.Prelude.{◌≡◌, ◌+◌, ◌*◌, ◌^◌, ◌==�
 ghost use Rattle.words.specs.Wide.{wide};
 ghost use Rattle.state.specs.Regs.{cleared, file, reg, set_reg, set_wide, rule_two, rule_wide, applied, register_step};
 
-use super::alu::{Op, Value, Wanted};
+use super::alu::{Op, Wanted};
+use super::fault::Fault;
 use isa::instr::Instr;
 use words::product::Wide;
 
@@ -12,19 +13,18 @@ pub struct RegFile {
     pub r: [u64; 16],
 }
 
-// The file after an operation, and the operation's fault, or 0.
+// The file after an operation, and the operation's fault, which leaves the file as it was.
 #[derive(Clone, Copy)]
 pub struct Stepped {
     pub file: RegFile,
-    pub fault: u64,
+    pub fault: Option<Fault>,
 }
 
-// What an operation does: a word into a register, two words into two, or a fault and nothing.
+// What an operation does: a word into a register, or two words into two.
 #[derive(Clone, Copy)]
 pub enum Outcome {
     Put(u8, u64),
     PutWide(u8, u8, Wide),
-    Fault(u64),
 }
 
 // A register, read where it stands; past the last 0.
@@ -48,45 +48,50 @@ fn pair(r: &[u64], lo: u8, hi: u8) -> Wide
 fn is_zero(w: Wide) -> bool
     ensures { result ≡ (wide w == 0) }
 {
-    if w.hi == 0 { w.lo == 0 } else { false }
+    w.hi == 0 && w.lo == 0
 }
 
 // An operation on two registers.
-fn two(r: &[u64], op: Op, d: u8, a: u8, b: u8) -> Outcome
+fn two(r: &[u64], op: Op, d: u8, a: u8, b: u8) -> Result<Outcome, Fault>
     ensures { applied (file r.now) result ≡ rule_two op (file r.now) d a b }
 {
-    let x = read(r, a);
-    let y = read(r, b);
-    let v = super::alu::alu(op, x, y);
-    match v {
-        Value::Done(w) => Outcome::Put(d, w),
-        Value::Fault(n) => Outcome::Fault(n),
-    }
+    let v = super::alu::alu(op, read(r, a), read(r, b))?;
+    Ok(Outcome::Put(d, v))
 }
 
 // A division of two words by two.
-fn divide(r: &[u64], want: Wanted, dlo: u8, dhi: u8, alo: u8, ahi: u8, blo: u8, bhi: u8) -> Outcome
+fn divide(
+    r: &[u64],
+    want: Wanted,
+    dlo: u8,
+    dhi: u8,
+    alo: u8,
+    ahi: u8,
+    blo: u8,
+    bhi: u8,
+) -> Result<Outcome, Fault>
     ensures { applied (file r.now) result ≡ rule_wide want (file r.now) dlo dhi alo ahi blo bhi }
 {
     let n = pair(r, alo, ahi);
     let d = pair(r, blo, bhi);
     if is_zero(d) {
-        return Outcome::Fault(3);
+        return Err(Fault::DivByZero);
     }
     let w = super::alu::divide_wide(want, n, d);
-    Outcome::PutWide(dlo, dhi, w)
+    Ok(Outcome::PutWide(dlo, dhi, w))
 }
 
 // What an instruction does to registers that stand in a slice.
-pub fn operate(r: &[u64], i: Instr) -> Outcome
+#[tactic(auto, unfolding(crate::specs::Regs::register_step))]
+pub fn operate(r: &[u64], i: Instr) -> Result<Outcome, Fault>
     ensures { applied (file r.now) result ≡ register_step i (file r.now) }
 {
     match i {
-        Instr::Halt => Outcome::Fault(50),
-        Instr::Nop => Outcome::Fault(50),
-        Instr::Mov { d, a } => Outcome::Put(d, read(r, a)),
-        Instr::Ldi { d, imm } => Outcome::Put(d, imm),
-        Instr::Ldc { d: _, idx: _ } => Outcome::Fault(50),
+        Instr::Halt => Err(Fault::NotRegister),
+        Instr::Nop => Err(Fault::NotRegister),
+        Instr::Mov { d, a } => Ok(Outcome::Put(d, read(r, a))),
+        Instr::Ldi { d, imm } => Ok(Outcome::Put(d, imm)),
+        Instr::Ldc { d: _, idx: _ } => Err(Fault::NotRegister),
         Instr::Add { d, a, b } => two(r, Op::Add, d, a, b),
         Instr::Sub { d, a, b } => two(r, Op::Sub, d, a, b),
         Instr::Mul { d, a, b } => two(r, Op::Mul, d, a, b),
@@ -115,30 +120,30 @@ pub fn operate(r: &[u64], i: Instr) -> Outcome
         Instr::And { d, a, b } => two(r, Op::And, d, a, b),
         Instr::Or { d, a, b } => two(r, Op::Or, d, a, b),
         Instr::Xor { d, a, b } => two(r, Op::Xor, d, a, b),
-        Instr::Not { d, a } => Outcome::Put(d, !read(r, a)),
+        Instr::Not { d, a } => Ok(Outcome::Put(d, !read(r, a))),
         Instr::Shl { d, a, b } => two(r, Op::Shl, d, a, b),
         Instr::Shr { d, a, b } => two(r, Op::Shr, d, a, b),
         Instr::Eq { d, a, b } => two(r, Op::Eq, d, a, b),
         Instr::LtU { d, a, b } => two(r, Op::LtU, d, a, b),
         Instr::GtU { d, a, b } => two(r, Op::GtU, d, a, b),
-        Instr::Push { a: _ } => Outcome::Fault(50),
-        Instr::Pop { d: _ } => Outcome::Fault(50),
-        Instr::MLoad { d: _, a: _ } => Outcome::Fault(50),
-        Instr::MStore { a: _, b: _ } => Outcome::Fault(50),
-        Instr::Jmp { target: _ } => Outcome::Fault(50),
-        Instr::Jz { a: _, target: _ } => Outcome::Fault(50),
-        Instr::Jnz { a: _, target: _ } => Outcome::Fault(50),
-        Instr::Call { target: _ } => Outcome::Fault(50),
-        Instr::Ret => Outcome::Fault(50),
-        Instr::SLoad { d: _, a: _ } => Outcome::Fault(50),
-        Instr::SStore { a: _, b: _ } => Outcome::Fault(50),
-        Instr::Send { a: _, b: _, c: _ } => Outcome::Fault(50),
-        Instr::Emit { a: _, b: _, c: _ } => Outcome::Fault(50),
-        Instr::Hash { a: _, b: _, c: _ } => Outcome::Fault(50),
-        Instr::VerifyMl { a: _, b: _, c: _ } => Outcome::Fault(50),
-        Instr::VerifySlh { a: _, b: _, c: _ } => Outcome::Fault(50),
-        Instr::MerkleVerify { a: _, b: _, c: _ } => Outcome::Fault(50),
-        Instr::Addr { a: _, b: _, c: _ } => Outcome::Fault(50),
+        Instr::Push { a: _ } => Err(Fault::NotRegister),
+        Instr::Pop { d: _ } => Err(Fault::NotRegister),
+        Instr::MLoad { d: _, a: _ } => Err(Fault::NotRegister),
+        Instr::MStore { a: _, b: _ } => Err(Fault::NotRegister),
+        Instr::Jmp { target: _ } => Err(Fault::NotRegister),
+        Instr::Jz { a: _, target: _ } => Err(Fault::NotRegister),
+        Instr::Jnz { a: _, target: _ } => Err(Fault::NotRegister),
+        Instr::Call { target: _ } => Err(Fault::NotRegister),
+        Instr::Ret => Err(Fault::NotRegister),
+        Instr::SLoad { d: _, a: _ } => Err(Fault::NotRegister),
+        Instr::SStore { a: _, b: _ } => Err(Fault::NotRegister),
+        Instr::Send { a: _, b: _, c: _ } => Err(Fault::NotRegister),
+        Instr::Emit { a: _, b: _, c: _ } => Err(Fault::NotRegister),
+        Instr::Hash { a: _, b: _, c: _ } => Err(Fault::NotRegister),
+        Instr::VerifyMl { a: _, b: _, c: _ } => Err(Fault::NotRegister),
+        Instr::VerifySlh { a: _, b: _, c: _ } => Err(Fault::NotRegister),
+        Instr::MerkleVerify { a: _, b: _, c: _ } => Err(Fault::NotRegister),
+        Instr::Addr { a: _, b: _, c: _ } => Err(Fault::NotRegister),
     }
 }
 
@@ -178,19 +183,18 @@ impl RegFile {
     pub fn step(mut self, i: Instr) -> Stepped
         ensures { result ≡ register_step i self }
     {
-        let o = operate(&self.r, i);
-        match o {
-            Outcome::Put(d, v) => {
-                let file = self.set_reg(d, v);
-                Stepped { file, fault: 0 }
-            }
-            Outcome::PutWide(lo, hi, w) => {
-                let file = self.set_wide(lo, hi, w);
-                Stepped { file, fault: 0 }
-            }
-            Outcome::Fault(n) => Stepped {
+        match operate(&self.r, i) {
+            Ok(Outcome::Put(d, v)) => Stepped {
+                file: self.set_reg(d, v),
+                fault: None,
+            },
+            Ok(Outcome::PutWide(lo, hi, w)) => Stepped {
+                file: self.set_wide(lo, hi, w),
+                fault: None,
+            },
+            Err(fault) => Stepped {
                 file: self,
-                fault: n,
+                fault: Some(fault),
             },
         }
     }

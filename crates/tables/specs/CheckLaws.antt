@@ -24,7 +24,7 @@ true_rising lo (r ∷ rs) s = go (true_rising (suc r.key) rs) (leb lo r.key) ref
   where
     go : (risingb (suc r.key) rs ≡ true → Rising (suc r.key) rs) → (b : Bool) → leb lo r.key ≡ b → (lo ≤ r.key) × Rising (suc r.key) rs
     go ih true e = (leb-true lo r.key e, ih (rw e at s))
-    go ih false e = let told : false ≡ true = rw e at s in let z : ◌≡◌ {A = ℕ} 0 1 = cc in absurd (omega arith)
+    go ih false e = let told : false ≡ true = rw e at s in absurd cc
 
 not_rising : (rs : List Row) → (Rising 0 rs → ⊥) → risingb 0 rs ≡ false
 not_rising rs h = go (risingb 0 rs) refl

@@ -1,70 +1,52 @@
 -- The order of numbers, told three ways, and of byte strings of one length. Assumes nothing.
-use Rattle.std.specs.Prelude.{◌≡◌, refl, Bool, true, false, List, [], ◌∷◌, ◌⊎◌, ℕ, suc, ◌+◌, ◌*◌, ◌≤◌, ◌<◌, take, drop, ltb}
+use Rattle.std.specs.Prelude.{◌≡◌, refl, true, false, List, [], ◌∷◌, ℕ, suc, ◌+◌, ◌*◌, ◌≤◌, ◌<◌, take, drop}
 use Rattle.std.proofs.Math.Path.{sym, ap}
-use Rattle.std.proofs.Common.{◌∙◌, inl, inr, eq-or-lt_of_le, take-append-drop, length-drop, drop_of_length-le, drop-drop, lt-ltb, le-ltb, ltb-true, ltb-false}
+use Rattle.std.proofs.Common.{◌∙◌, take-append-drop, length-drop, drop_of_length-le, drop-drop}
 use native.Mathlib.Omega.{arith}
 use Rattle.std.proofs.Math.ListN.{length}
 use Rattle.std.proofs.Math.Seq.{length-take-le}
 use Rattle.words.specs.Bytes.{num, num_from, be_bytes, Bytes}
 use Rattle.words.proofs.BytesTheorems.{bytes_take, bytes_drop, num_from_append, write_back}
-use Rattle.tables.specs.Order.{order_of}
+use Rattle.std.specs.Ordering.{nat_cmp, is_ge}
+use Rattle.std.specs.Cmp.{nat_cmp_is}
+use Rattle.std.proofs.lemmas.Cmp.{ranked}
+use Rattle.std.specs.declared.cmp.Ordering.{Ordering}
 use Rattle.tables.specs.Walks.{Agree}
-use Rattle.tables.specs.declared.order.Order.TheVariants.{Less, Equal, Greater}
+use Rattle.std.specs.declared.cmp.Ordering.TheVariants.{Less, Equal, Greater}
 
-pub order_less : (a b : ℕ) → a < b → order_of a b ≡ Less
-unfolding order_of
-order_less a b h = rw (lt-ltb a b h)
+pub order_less : (a b : ℕ) → a < b → nat_cmp a b ≡ Less
+order_less a b h = sym (nat_cmp_is a b Less h)
 
-pub order_greater : (a b : ℕ) → b < a → order_of a b ≡ Greater
-unfolding order_of
-order_greater a b h = let l : b ≤ a = omega arith in rw (le-ltb a b l, lt-ltb b a h)
+pub order_greater : (a b : ℕ) → b < a → nat_cmp a b ≡ Greater
+order_greater a b h = sym (nat_cmp_is a b Greater h)
 
-pub order_equal : (a b : ℕ) → a ≡ b → order_of a b ≡ Equal
-unfolding order_of
-order_equal a b h = let l : b ≤ a = omega arith in let m : a ≤ b = omega arith in rw (le-ltb a b l, le-ltb b a m)
+pub order_equal : (a b : ℕ) → a ≡ b → nat_cmp a b ≡ Equal
+order_equal a b h = sym (nat_cmp_is a b Equal h)
 
--- the three ways that two numbers can stand, each with what `order_of` says
+-- the three ways that two numbers can stand, each with what `cmp` says
 pub data Tri (a b : ℕ) : Type 0 where
-  below : a < b → order_of a b ≡ Less → Tri a b
-  same : a ≡ b → order_of a b ≡ Equal → Tri a b
-  above : b < a → order_of a b ≡ Greater → Tri a b
+  below : a < b → nat_cmp a b ≡ Less → Tri a b
+  same : a ≡ b → nat_cmp a b ≡ Equal → Tri a b
+  above : b < a → nat_cmp a b ≡ Greater → Tri a b
 
 pub tri : (a b : ℕ) → Tri a b
-tri a b = first (ltb a b) refl
+tri a b = go (nat_cmp a b) refl
   where
-    second : b ≤ a → (b ≡ a) ⊎ (b < a) → Tri a b
-    second l (inl e) = same (sym e) (order_equal a b (sym e))
-    second l (inr h) = above h (order_greater a b h)
+    go : (o : Ordering) → o ≡ nat_cmp a b → Tri a b
+    go Less e = below (ranked a b Less e) (sym e)
+    go Equal e = same (ranked a b Equal e) (sym e)
+    go Greater e = above (ranked a b Greater e) (sym e)
 
-    first : (t : Bool) → ltb a b ≡ t → Tri a b
-    first true e = let h : a < b = ltb-true a b e in below h (order_less a b h)
-    first false e = let l : b ≤ a = ltb-false a b e in second l (eq-or-lt_of_le l)
+-- what the test of an order says
+pub ge_is : (a b : ℕ) (o : Ordering) → o ≡ nat_cmp a b → true ≡ is_ge o → b ≤ a
+ge_is a b Less e h = absurd cc
+ge_is a b Equal e h = let q : a ≡ b = ranked a b Equal e in omega arith
+ge_is a b Greater e h = let q : b < a = ranked a b Greater e in omega arith
 
--- what an order that was told says
-module _ (a b : ℕ) where
-  pub less_is : order_of a b ≡ Less → a < b
-  less_is o = go (tri a b)
-    where
-      go : Tri a b → a < b
-      go (below h e) = h
-      go (same h e) = let z : ◌≡◌ {A = ℕ} 0 1 = cc in absurd (omega arith)
-      go (above h e) = let z : ◌≡◌ {A = ℕ} 0 1 = cc in absurd (omega arith)
-
-  pub equal_is : order_of a b ≡ Equal → a ≡ b
-  equal_is o = go (tri a b)
-    where
-      go : Tri a b → a ≡ b
-      go (below h e) = let z : ◌≡◌ {A = ℕ} 0 1 = cc in absurd (omega arith)
-      go (same h e) = h
-      go (above h e) = let z : ◌≡◌ {A = ℕ} 0 1 = cc in absurd (omega arith)
-
-  pub greater_is : order_of a b ≡ Greater → b < a
-  greater_is o = go (tri a b)
-    where
-      go : Tri a b → b < a
-      go (below h e) = let z : ◌≡◌ {A = ℕ} 0 1 = cc in absurd (omega arith)
-      go (same h e) = let z : ◌≡◌ {A = ℕ} 0 1 = cc in absurd (omega arith)
-      go (above h e) = h
+pub lt_is : (a b : ℕ) (o : Ordering) → o ≡ nat_cmp a b → false ≡ is_ge o → a < b
+lt_is a b Less e h = ranked a b Less e
+lt_is a b Equal e h = absurd cc
+lt_is a b Greater e h = absurd cc
 
 -- more in front is more, whatever bytes follow
 num_from_less : (xs ys : List ℕ) (x y : ℕ) → length xs ≡ length ys → Bytes xs → x < y → num_from x xs < num_from y ys
@@ -129,3 +111,11 @@ module _ {a b : List ℕ} {i : ℕ} (g : Agree a b i) (e : length a ≡ length b
   agree_end h =
       let hb : length b ≤ i = omega arith in
       g.left ∙ ap (num_from g.front) (drop_of_length-le a h ∙ sym (drop_of_length-le b hb)) ∙ sym g.right
+
+-- where the next w bytes differ, they decide
+pub agree_differ : {a b : List ℕ} {i : ℕ} → Agree a b i → length a ≡ length b → (w : ℕ) → i + w ≤ length a → Bytes a → Bytes b → (o : Ordering)
+    → o ≡ nat_cmp (num (take w (drop i a))) (num (take w (drop i b))) → (o ≡ Equal → ⊥) → o ≡ nat_cmp (num a) (num b)
+agree_differ {a} {b} g e w h ba bb Less o n = sym (order_less (num a) (num b) (agree_less g e w h ba bb (ranked _ _ Less o)))
+agree_differ g e w h ba bb Equal o n = absurd (n refl)
+agree_differ {a} {b} g e w h ba bb Greater o n =
+    sym (order_greater (num a) (num b) (agree_less (agree_sym g) (sym e) w (omega arith) bb ba (ranked _ _ Greater o)))

@@ -1,10 +1,8 @@
 -- Rows of a key and a value, in bytes and sorted by key (document 01, Lent input: rows are key 32, value 8; a set is rows of 32).
-use Rattle.std.specs.Prelude.{List, [], ◌∷◌, ◌++◌, ℕ, zero, suc, ◌-◌, ◌≤◌, take, drop}
-use Rattle.std.proofs.Math.Option.{Option, some, none}
+use Rattle.std.specs.Prelude.{List, [], ◌∷◌, ◌++◌, ℕ, zero, suc, ◌-◌, ◌≤◌, take, drop, Option, Some, None, Result, Ok, Err}
 use Rattle.words.specs.Bytes.{num, be_bytes}
-use Rattle.tables.specs.Order.{order_of, by_order}
-use Rattle.tables.specs.declared.rows.Found.{Found}
-use Rattle.tables.specs.declared.rows.Found.TheVariants.{At, Missing}
+use Rattle.std.specs.Ordering.{nat_cmp}
+use Rattle.tables.specs.Order.{by_order}
 
 -- a row: a key and the value that stands at it
 pub record Row : Type 0 where
@@ -31,21 +29,21 @@ Rising lo [] = Unit {0}
 Rising lo (r ∷ rs) = (lo ≤ r.key) × Rising (suc r.key) rs
 
 -- a place, one row further on
-unfoldable pub onward : Found → Found
-onward (At i) = At (suc i)
-onward (Missing i) = Missing (suc i)
+unfoldable pub onward : Result ℕ ℕ → Result ℕ ℕ
+onward (Ok i) = Ok (suc i)
+onward (Err i) = Err (suc i)
 
 -- where a key stands in rising rows, or would stand
-unfoldable pub find : ℕ → List Row → Found
-find k [] = Missing 0
-find k (r ∷ rs) = by_order (order_of r.key k) (onward (find k rs)) (At 0) (Missing 0)
+unfoldable pub find : ℕ → List Row → Result ℕ ℕ
+find k [] = Err 0
+find k (r ∷ rs) = by_order (nat_cmp r.key k) (onward (find k rs)) (Ok 0) (Err 0)
 
 -- rising rows with x put at its key
 unfoldable pub insert : Row → List Row → List Row
 insert x [] = x ∷ []
-insert x (r ∷ rs) = by_order (order_of r.key x.key) (r ∷ insert x rs) (x ∷ rs) (x ∷ r ∷ rs)
+insert x (r ∷ rs) = by_order (nat_cmp r.key x.key) (r ∷ insert x rs) (x ∷ rs) (x ∷ r ∷ rs)
 
 -- the value at a key in rising rows
 unfoldable pub lookup : ℕ → List Row → Option ℕ
-lookup k [] = none
-lookup k (r ∷ rs) = by_order (order_of r.key k) (lookup k rs) (some r.value) none
+lookup k [] = None
+lookup k (r ∷ rs) = by_order (nat_cmp r.key k) (lookup k rs) (Some r.value) None

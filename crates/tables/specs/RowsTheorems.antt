@@ -1,18 +1,17 @@
 -- Sorted rows as a map: looking up after putting in, the count, the order, and that lookups tell the rows. Assumes nothing.
-use Rattle.std.specs.Prelude.{◌≡◌, refl, not, List, [], ◌∷◌, ℕ, suc, ◌+◌, ◌≤◌, ◌<◌, length}
+use Rattle.std.specs.Prelude.{◌≡◌, refl, not, List, [], ◌∷◌, ℕ, suc, ◌+◌, ◌≤◌, ◌<◌, length, Some, None, is_some}
 use Rattle.std.proofs.Common.{sym, ap, ◌∙◌, arith}
-use Rattle.std.proofs.Math.Option.{some, none}
-use Rattle.words.specs.Choice.{bit, is_some}
+use Rattle.words.specs.Choice.{bit}
 use Rattle.tables.specs.OrderLaws.{order_less, order_equal, order_greater, Tri, tri, below, same, above}
 use Rattle.tables.specs.Rows.{Row, Rising, insert, lookup}
 
 -- the value put in is found at its key
-pub lookup_insert_same : (x : Row) (rs : List Row) → lookup x.key (insert x rs) ≡ some x.value
+pub lookup_insert_same : (x : Row) (rs : List Row) → lookup x.key (insert x rs) ≡ Some x.value
 unfolding lookup insert
 lookup_insert_same x [] = rw (order_equal x.key x.key refl)
 lookup_insert_same x (r ∷ rs) = go (lookup_insert_same x rs) (tri r.key x.key)
   where
-    go : lookup x.key (insert x rs) ≡ some x.value → Tri r.key x.key → lookup x.key (insert x (r ∷ rs)) ≡ some x.value
+    go : lookup x.key (insert x rs) ≡ Some x.value → Tri r.key x.key → lookup x.key (insert x (r ∷ rs)) ≡ Some x.value
     go ih (below h e) = rw (e, e) ih
     go ih (same h e) = rw (e, order_equal x.key x.key refl)
     go ih (above h e) = rw (e, order_equal x.key x.key refl)
@@ -22,7 +21,7 @@ pub lookup_insert_other : (j : ℕ) (x : Row) (rs : List Row) → (x.key ≡ j �
 unfolding lookup insert
 lookup_insert_other j x [] ne = go (tri x.key j)
   where
-    go : Tri x.key j → lookup j (x ∷ []) ≡ none
+    go : Tri x.key j → lookup j (x ∷ []) ≡ None
     go (below h e) = rw e
     go (same h e) = absurd (ne h)
     go (above h e) = rw e
@@ -64,22 +63,22 @@ length_insert x (r ∷ rs) = go (length_insert x rs) (tri r.key x.key)
     go ih (same h e) = rw e (omega arith)
     go ih (above h e) = rw e (omega arith)
 
-lookup_below : (lo k : ℕ) (rs : List Row) → k < lo → Rising lo rs → lookup k rs ≡ none
+lookup_below : (lo k : ℕ) (rs : List Row) → k < lo → Rising lo rs → lookup k rs ≡ None
 unfolding lookup
 lookup_below lo k [] h s = refl
 lookup_below lo k (r ∷ rs) h s = rw (order_greater r.key k (omega arith))
 
-some_none : {v : ℕ} → some v ≡ none → ⊥
-some_none e = let z : ◌≡◌ {A = ℕ} 0 1 = cc in omega arith
+some_none : {v : ℕ} → Some v ≡ None → ⊥
+some_none e = cc
 
-some_inj : {v u : ℕ} → some v ≡ some u → v ≡ u
+some_inj : {v u : ℕ} → Some v ≡ Some u → v ≡ u
 some_inj e = cc
 
-lookup_head : (r : Row) (rs : List Row) → lookup r.key (r ∷ rs) ≡ some r.value
+lookup_head : (r : Row) (rs : List Row) → lookup r.key (r ∷ rs) ≡ Some r.value
 unfolding lookup
 lookup_head r rs = rw (order_equal r.key r.key refl)
 
-row_path : (a b : Row) → a.key ≡ b.key → a.value ≡ b.value → a ≡ b
+pub row_path : (a b : Row) → a.key ≡ b.key → a.value ≡ b.value → a ≡ b
 row_path a b p q = λ i. record { key = p i; value = q i }
 
 -- the answers of the tails are the same too

@@ -1,5 +1,5 @@
 -- What a row pasted in among sorted rows does to the rows. Assumes nothing.
-use Rattle.std.specs.Prelude.{◌≡◌, List, ◌∷◌, ◌++◌, take}
+use Rattle.std.specs.Prelude.{◌≡◌, List, ◌∷◌, ◌++◌, take, Some, None, Ok, Err}
 use Rattle.std.proofs.Math.Path.{refl, sym, ap}
 use Rattle.std.proofs.Common.{◌∙◌, append_assoc, add-one, suc-mul, add-mul, length-drop, length-append, take-append-drop, drop-drop, take-take, take_all, drop_at, take_at, length-take-le}
 use Prim.Native.Nat.{ℕ, suc, ◌+◌, ◌*◌, ◌-◌, ◌≤◌, ◌<◌}
@@ -14,8 +14,6 @@ use Rattle.tables.specs.Table.{Table, Inserted, stored_of}
 use Rattle.tables.specs.SortedLaws.{insert_at, insert_missing}
 use Rattle.tables.specs.RowsTheorems.{length_insert}
 use Rattle.tables.specs.LayoutLaws.{rows_length, rows_split, rows_front, rows_spliced, row_ends}
-use Rattle.tables.specs.declared.rows.Found.TheVariants.{At, Missing}
-use Rattle.tables.specs.declared.store.Stored.TheVariants.{Count, NoRoom}
 
 -- bytes that agree from a on agree from b on
 pub drop_beyond : (a b : ℕ) (u t : List ℕ) → a ≤ b → drop a u ≡ drop a t → drop b u ≡ drop b t
@@ -83,7 +81,7 @@ module _ (w n i : ℕ) (t row : List ℕ) (tb : Table w n t) (lw : length row �
   rs = rows w n t
 
   -- a row put over the one that has its key
-  pub put_at : find x.key rs ≡ At i → (u : List ℕ) → u ≡ paste t (i * w) row w → Inserted w n x t u (Count n)
+  pub put_at : find x.key rs ≡ Ok i → (u : List ℕ) → u ≡ paste t (i * w) row w → Inserted w n x t u (Some n)
   unfolding stored_of
   put_at h u p =
       let (l, v, e) = insert_at x rs i x h in
@@ -101,7 +99,7 @@ module _ (w n i : ℕ) (t row : List ℕ) (tb : Table w n t) (lw : length row �
       record { answer = rw (size, le-leb (n * w) (length t) tb.fits); bytes = (r, d) }
 
   -- a row with a new key
-  module _ (h : find x.key rs ≡ Missing i) where
+  module _ (h : find x.key rs ≡ Err i) where
     place : i ≤ n
     place = omega (arith, (insert_missing x rs i h).0, rows_length w n t)
 
@@ -111,7 +109,7 @@ module _ (w n i : ℕ) (t row : List ℕ) (tb : Table w n t) (lw : length row �
     next : (n + 1) * w ≡ n * w + w
     next = ap (λ (j : ℕ). j * w) (add-one n) ∙ suc-mul n w
 
-    pub put_none : length t - n * w < w → Inserted w n x t t NoRoom
+    pub put_none : length t - n * w < w → Inserted w n x t t None
     unfolding stored_of
     put_none s = record { answer = rw (size, lt-leb ((n + 1) * w) (length t) (omega (arith, next, tb.fits))); bytes = refl }
 
@@ -150,6 +148,6 @@ module _ (w n i : ℕ) (t row : List ℕ) (tb : Table w n t) (lw : length row �
           (drop-paste v (i * w) row w (omega (arith, whole, same_length)) (omega arith))
           ∙ ap (drop ((n + 1) * w)) p ∙ rw (← e) (drop-paste t at (drop (i * w) t) k (omega (arith, whole)) (omega (arith, whole, left)))
 
-      pub put_new : Inserted w n x t u (Count (n + 1))
+      pub put_new : Inserted w n x t u (Some (n + 1))
       unfolding stored_of
       put_new = record { answer = rw (size, le-leb ((n + 1) * w) (length t) (omega (arith, next))); bytes = (new_rows, new_rest) }

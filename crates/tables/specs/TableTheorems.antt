@@ -1,8 +1,8 @@
 -- A table's bytes are its rows' bytes and the rest, and a row put in leaves a table, one outcome only. Assumes nothing.
-use Rattle.std.specs.Prelude.{◌≡◌, refl, Bool, true, false, not, List, ◌++◌, ℕ, zero, suc, ◌+◌, ◌*◌, ◌-◌, ◌≤◌, length, take, drop, leb}
+use Rattle.std.specs.Prelude.{◌≡◌, refl, Bool, true, false, not, List, ◌++◌, ℕ, zero, suc, ◌+◌, ◌*◌, ◌-◌, ◌≤◌, length, take, drop, leb, Option, Some, None, is_some}
 use Rattle.std.proofs.Common.{sym, ap, ◌∙◌, subst, append_assoc, arith, suc-mul, zero-mul, mul-le-mul_right, take-append-drop, length-drop, drop-drop, get_or-drop, leb-true}
 use Rattle.words.specs.Bytes.{be_bytes, Bytes}
-use Rattle.words.specs.Choice.{pick, is_some}
+use Rattle.words.specs.Choice.{pick}
 use Rattle.words.proofs.BytesTheorems.{write_back}
 use Rattle.tables.specs.Rows.{Row, row_in, rows, bytes_of, insert, lookup}
 use Rattle.tables.specs.Table.{Table, After, stored_of, Inserted}
@@ -10,8 +10,6 @@ use Rattle.tables.specs.LayoutLaws.{rows_length}
 use Rattle.tables.specs.StoreLaws.{drop_beyond}
 use Rattle.tables.specs.RowsTheorems.{rising_insert, length_insert}
 use Rattle.words.specs.ChoiceLaws.{bit_small}
-use Rattle.tables.specs.declared.store.Stored.{Stored}
-use Rattle.tables.specs.declared.store.Stored.TheVariants.{Count, NoRoom}
 
 -- a row's bytes are those of its key and of its value
 row_bytes : (w : ℕ) (t : List ℕ) → Bytes t → 32 ≤ w → w ≤ length t → be_bytes 32 (row_in w t).key ++ (be_bytes (w - 32) (row_in w t).value ++ drop w t) ≡ t
@@ -44,35 +42,35 @@ pub same_bytes : (w n : ℕ) (t u : List ℕ) → 32 ≤ w → n * w ≤ length 
 same_bytes w n t u h lt lu bt bu r d = sym (held_bytes w n t bt h lt) ∙ (λ i. bytes_of w (r i) ++ d i) ∙ held_bytes w n u bu h lu
 
 -- the answer that a contract allows is one of two, with its bytes
-data Case (w : ℕ) (rs : List Row) (t u : List ℕ) (r : Stored) : Type 0 where
-  fitted : length rs * w ≤ length t → r ≡ Count (length rs) → rows w (length rs) u ≡ rs → drop (length rs * w) u ≡ drop (length rs * w) t → Case w rs t u r
-  refused : r ≡ NoRoom → u ≡ t → Case w rs t u r
+data Case (w : ℕ) (rs : List Row) (t u : List ℕ) (r : Option ℕ) : Type 0 where
+  fitted : length rs * w ≤ length t → r ≡ Some (length rs) → rows w (length rs) u ≡ rs → drop (length rs * w) u ≡ drop (length rs * w) t → Case w rs t u r
+  refused : r ≡ None → u ≡ t → Case w rs t u r
 
-case : (w : ℕ) (rs : List Row) (t u : List ℕ) (r : Stored) → r ≡ stored_of w rs t → After r w rs t u → Case w rs t u r
+case : (w : ℕ) (rs : List Row) (t u : List ℕ) (r : Option ℕ) → r ≡ stored_of w rs t → After r w rs t u → Case w rs t u r
 unfolding stored_of
 case w rs t u r a b = go (leb (length rs * w) (length t)) refl
   where
     go : (c : Bool) → leb (length rs * w) (length t) ≡ c → Case w rs t u r
     go true e =
-        let q : r ≡ Count (length rs) = a ∙ ap (λ (c : Bool). pick c (Count (length rs)) NoRoom) e in
-        let k = subst (λ (o : Stored). After o w rs t u) q b in
+        let q : r ≡ Some (length rs) = a ∙ ap (λ (c : Bool). pick c (Some (length rs)) None) e in
+        let k = subst (λ (o : Option ℕ). After o w rs t u) q b in
         fitted (leb-true (length rs * w) (length t) e) q k.0 k.1
     go false e =
-        let q : r ≡ NoRoom = a ∙ ap (λ (c : Bool). pick c (Count (length rs)) NoRoom) e in
-        refused q (subst (λ (o : Stored). After o w rs t u) q b)
+        let q : r ≡ None = a ∙ ap (λ (c : Bool). pick c (Some (length rs)) None) e in
+        refused q (subst (λ (o : Option ℕ). After o w rs t u) q b)
 
 -- a row that was put in leaves a table of as many rows as is said
-pub inserted_table : (w n m : ℕ) (x : Row) (t u : List ℕ) → Table w n t → length u ≡ length t → Inserted w n x t u (Count m) → Table w m u
-inserted_table w n m x t u tb lu i = go (case w (insert x (rows w n t)) t u (Count m) i.answer i.bytes)
+pub inserted_table : (w n m : ℕ) (x : Row) (t u : List ℕ) → Table w n t → length u ≡ length t → Inserted w n x t u (Some m) → Table w m u
+inserted_table w n m x t u tb lu i = go (case w (insert x (rows w n t)) t u (Some m) i.answer i.bytes)
   where
-    go : Case w (insert x (rows w n t)) t u (Count m) → Table w m u
+    go : Case w (insert x (rows w n t)) t u (Some m) → Table w m u
     go (fitted l q r d) =
         let e : length (insert x (rows w n t)) ≡ m = cc in
         rw (← e) (record { wide = tb.wide; fits = rw lu l; rising = rw r (rising_insert 0 x (rows w n t) (omega arith) tb.rising) })
-    go (refused q r) = let z : ◌≡◌ {A = ℕ} 0 1 = cc in absurd (omega arith)
+    go (refused q r) = absurd cc
 
 -- bytes past the rows, and one row more, are as they were, refused or not
-pub past_rows : (w n : ℕ) (x : Row) (t u : List ℕ) (r : Stored) → Inserted w n x t u r → drop (suc n * w) u ≡ drop (suc n * w) t
+pub past_rows : (w n : ℕ) (x : Row) (t u : List ℕ) (r : Option ℕ) → Inserted w n x t u r → drop (suc n * w) u ≡ drop (suc n * w) t
 past_rows w n x t u r i = go (case w (insert x (rows w n t)) t u r i.answer i.bytes)
   where
     go : Case w (insert x (rows w n t)) t u r → drop (suc n * w) u ≡ drop (suc n * w) t
@@ -83,7 +81,7 @@ past_rows w n x t u r i = go (case w (insert x (rows w n t)) t u r i.answer i.by
     go (refused q e) = ap (drop (suc n * w)) e
 
 -- whatever `insert` is allowed to leave, there is one answer and one list of bytes
-pub inserted_once : (w n : ℕ) (x : Row) (t u v : List ℕ) (r s : Stored) → 32 ≤ w → length u ≡ length t → length v ≡ length t → Bytes u → Bytes v
+pub inserted_once : (w n : ℕ) (x : Row) (t u v : List ℕ) (r s : Option ℕ) → 32 ≤ w → length u ≡ length t → length v ≡ length t → Bytes u → Bytes v
     → Inserted w n x t u r → Inserted w n x t v s → (r ≡ s) × (u ≡ v)
 inserted_once w n x t u v r s h lu lv p q a b =
     (same, go (case w (insert x (rows w n t)) t u r a.answer a.bytes) (case w (insert x (rows w n t)) t v s b.answer b.bytes))
@@ -91,8 +89,8 @@ inserted_once w n x t u v r s h lu lv p q a b =
     same : r ≡ s
     same = a.answer ∙ sym b.answer
 
-    clash : {m : ℕ} {o p : Stored} → o ≡ p → o ≡ Count m → p ≡ NoRoom → u ≡ v
-    clash g e f = let z : ◌≡◌ {A = ℕ} 0 1 = cc in absurd (omega arith)
+    clash : {m : ℕ} {o p : Option ℕ} → o ≡ p → o ≡ Some m → p ≡ None → u ≡ v
+    clash g e f = absurd cc
 
     go : Case w (insert x (rows w n t)) t u r → Case w (insert x (rows w n t)) t v s → u ≡ v
     go (fitted l e f d) (fitted l2 e2 f2 d2) =

@@ -1,70 +1,62 @@
-// Looking up in sorted rows. A row is w bytes: a key of 32, and the value after it.
-ghost use Rattle.std.specs.Prelude.{◌≡◌, ◌*◌, length};
-ghost use Rattle.words.specs.Choice.{is_some};
+// Sorted rows at the front of lent bytes. A row is W bytes: a key of 32, and the value after it.
+ghost use Rattle.std.specs.Prelude.{◌≡◌, ◌≤◌, length, take, is_some};
 ghost use Rattle.words.specs.Bytes.{num};
-ghost use Rattle.tables.specs.Rows;
-ghost use Rattle.tables.specs.Rows.{rows, lookup};
+ghost use Rattle.tables.specs.Rows.{rows, lookup, find};
 ghost use Rattle.tables.specs.Table.{Table};
-ghost use Rattle.tables.specs.Answers.{got_of};
+ghost use Rattle.tables.specs.TableProps.{table_props};
 
-use crate::order::Order;
+use std::cmp::Ordering;
 
+// Bytes that begin with a table of so many rows.
 #[derive(Clone, Copy)]
-pub enum Found {
-    At(usize),
-    Missing(usize),
+pub struct Rows<'a, const W: usize> {
+    pub bytes: &'a [u8],
+    pub count: usize,
+    pub ghost table: { Table W count bytes.now } by { Prim.hlevel table_props },
 }
 
-// Where a key stands in the first n rows of w bytes, or would stand.
-pub(crate) fn find(t: &[u8], n: usize, w: usize, key: &[u8]) -> Found
-    requires { Table w n t.now × (length key.now ≡ 32) }
-    ensures { result ≡ Rows.find (num key.now) (rows w n t.now) }
+// The key that a row begins with.
+pub fn key_of(row: &[u8]) -> &[u8; 32]
+    requires { 32 ≤ length row.now }
+    ensures { result.now ≡ take 32 row.now }
 {
-    let mut lo = 0;
-    let mut hi = n;
-    while lo < hi {
-        let mid = lo + (hi - lo) / 2;
-        let at = mid * w;
-        let end = at + 32;
-        let o = crate::order::compare(&t[at..end], key);
-        match o {
-            Order::Less => lo = mid + 1,
-            Order::Equal => return Found::At(mid),
-            Order::Greater => hi = mid,
+    row.first_chunk().unwrap()
+}
+
+impl<'a, const W: usize> Rows<'a, W> {
+    // Where a key stands, or would stand.
+    // A loop: `binary_search_by` goes over the elements of a slice, and a row is none.
+    pub(crate) fn find(self, key: &[u8; 32]) -> Result<usize, usize>
+        ensures { result ≡ find (num key.now) (rows W self.entry.count self.entry.bytes.now) }
+    {
+        let mut lo = 0;
+        let mut hi = self.count;
+        while lo < hi {
+            let mid = lo + (hi - lo) / 2;
+            let at = mid * W;
+            match crate::order::compare(&self.bytes[at..at + 32], key) {
+                Ordering::Less => lo = mid + 1,
+                Ordering::Equal => return Ok(mid),
+                Ordering::Greater => hi = mid,
+            }
         }
+        Err(lo)
     }
-    Found::Missing(lo)
-}
 
-// Whether a key stands in the first n rows of w bytes.
-pub fn has(t: &[u8], n: usize, w: usize, key: &[u8]) -> bool
-    requires { Table w n t.now × (length key.now ≡ 32) }
-    ensures { result ≡ is_some (lookup (num key.now) (rows w n t.now)) }
-{
-    let f = find(t, n, w, key);
-    match f {
-        Found::At(_) => true,
-        Found::Missing(_) => false,
+    // Whether a key stands there.
+    pub fn has(self, key: &[u8; 32]) -> bool
+        ensures { result ≡ is_some (lookup (num key.now) (rows W self.entry.count self.entry.bytes.now)) }
+    {
+        self.find(key).is_ok()
     }
 }
 
-#[derive(Clone, Copy)]
-pub enum Got {
-    Value(u64),
-    Nothing,
-}
-
-// The value at a key, in rows of 40 bytes.
-pub fn get(t: &[u8], n: usize, key: &[u8]) -> Got
-    requires { Table 40 n t.now × (length key.now ≡ 32) }
-    ensures { result ≡ got_of (lookup (num key.now) (rows 40 n t.now)) }
-{
-    let f = find(t, n, 40, key);
-    match f {
-        Found::At(i) => {
-            let at = i * 40 + 32;
-            Got::Value(words::bytes::read(t, at, 8))
-        }
-        Found::Missing(_) => Got::Nothing,
+impl<'a> Rows<'a, 40> {
+    // The value at a key.
+    pub fn get(self, key: &[u8; 32]) -> Option<u64>
+        ensures { result ≡ lookup (num key.now) (rows 40 self.entry.count self.entry.bytes.now) }
+    {
+        let i = self.find(key).ok()?;
+        Some(words::bytes::read(self.bytes, i * 40 + 32, 8))
     }
 }

@@ -1,7 +1,7 @@
 -- What the loops over digits do in a turn. Assumes nothing.
-use Rattle.std.specs.Prelude.{◌≡◌, refl, List, [], ◌∷◌, Bool, true, false, ℕ, zero, suc, ◌+◌, ◌/◌, ◌%◌, ◌^◌, ◌≤◌, ◌<◌, ltb, length, set}
-use Rattle.std.proofs.Common.{sym, ap, ◌∙◌, arith, add-one, pow-suc, div-lt_iff_lt-mul, length-append, lt-ltb, le-ltb}
-use Rattle.std.proofs.Math.Seq.{paste, paste-zero}
+use Rattle.std.specs.Prelude.{◌≡◌, refl, List, [], ◌∷◌, Bool, true, false, ℕ, zero, suc, ◌+◌, ◌-◌, ◌/◌, ◌%◌, ◌^◌, max, ◌*◌, ◌≤◌, ◌<◌, ltb, length, set}
+use Rattle.std.proofs.Common.{ap, ◌∙◌, arith, add-one, sub-one, pow-suc, length-append, lt-ltb, le-ltb}
+use Rattle.std.proofs.Math.Seq.{paste}
 use Rattle.words.specs.Choice.{pick}
 use Rattle.words.specs.BytesLaws.{last_first}
 use Rattle.text.specs.Decimal.{last_digits, digit_count}
@@ -20,6 +20,14 @@ pub count_end : (l n : ℕ) → n < 10 → digit_count (suc l) n ≡ 1
 unfolding digit_count
 count_end l n h = rw (lt-ltb n 10 h)
 
+-- a number between two powers of ten takes the digits of the lower one
+pub count_power : (l n k : ℕ) → 10 ^ k ≤ max n 1 → max n 1 < 10 * 10 ^ k → k < l → digit_count l n ≡ k + 1
+count_power zero n k h p q = absurd (omega arith)
+count_power (suc l) n zero h p q = count_end l n (omega arith)
+count_power (suc l) n (suc k) h p q =
+    let e : 10 ^ suc k ≡ 10 ^ k * 10 = pow-suc 10 k in
+    digits_turn l n (omega arith) ∙ omega (arith, count_power l (n / 10) k (omega arith) (omega arith) (omega arith))
+
 pub count_most : (l n : ℕ) → digit_count l n ≤ l
 unfolding digit_count
 count_most zero n = omega arith
@@ -30,37 +38,8 @@ count_most (suc l) n = by (ltb n 10) (count_most l (n / 10))
     by false h = omega arith
 
 -- a turn of the writing, the last digit first
-pub put_turn : (d : List ℕ) (at i j x : ℕ) → i ≡ suc j → at + i ≤ length d →
-    paste d at (last_digits i x) i ≡ paste (set d (at + j) (48 + x % 10)) at (last_digits j (x / 10)) j
+pub put_turn : (d : List ℕ) (at i x : ℕ) → 0 < i → at + i ≤ length d →
+    paste d at (last_digits i x) i ≡ paste (set d (at + (i - 1)) (48 + x % 10)) at (last_digits (i - 1) (x / 10)) (i - 1)
 unfolding last_digits
-put_turn d at i j x e h =
-    ap (λ (k : ℕ). paste d at (last_digits k x) k) e ∙ last_first d (last_digits j (x / 10)) at j (48 + x % 10) (length_digits j (x / 10)) (omega (arith, e, h))
-
-pub put_end : (d : List ℕ) (at i x : ℕ) → i ≡ 0 → paste d at (last_digits i x) i ≡ d
-unfolding last_digits
-put_end d at i x e = ap (λ (k : ℕ). paste d at (last_digits k x) k) e ∙ sym (paste-zero d at [])
-
--- k digits are counted, and those of x are to come but for one
-pub record DigitsCounted (n x k : ℕ) : Type 0 where
-  pub left : ℕ
-  pub sum : k + left ≡ 20
-  pub is : k + digit_count (suc left) x ≡ 1 + digit_count 20 n
-  pub small : x < 10 ^ suc left
-
-pub counted_start : (n : ℕ) → n < 2 ^ 64 → DigitsCounted n n 1
-counted_start n h = record { left = 19; sum = refl; is = refl; small = omega (arith, h) }
-
-pub counted_turn : (n x k : ℕ) → 10 ≤ x → DigitsCounted n x k → DigitsCounted n (x / 10) (k + 1)
-counted_turn n x k h c = by c.left c.sum c.is c.small
-  where
-    by : (l : ℕ) → k + l ≡ 20 → k + digit_count (suc l) x ≡ 1 + digit_count 20 n → x < 10 ^ suc l → DigitsCounted n (x / 10) (k + 1)
-    by zero e i p = absurd (omega (arith, p, h))
-    by (suc l) e i p = record {
-      left = l;
-      sum = omega (arith, e);
-      is = omega (arith, i, digits_turn (suc l) x h);
-      small = (div-lt_iff_lt-mul {k = 10} {x = x} {y = 10 ^ suc l} (omega arith)).1 (rw pow-suc at p);
-    }
-
-pub counted_end : (n x k : ℕ) → x < 10 → DigitsCounted n x k → k ≡ digit_count 20 n
-counted_end n x k h c = omega (arith, c.is, count_end c.left x h)
+put_turn d at zero x p h = absurd (omega arith)
+put_turn d at (suc j) x p h = rw sub-one (last_first d (last_digits j (x / 10)) at j (48 + x % 10) (length_digits j (x / 10)) (omega arith))

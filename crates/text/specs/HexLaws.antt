@@ -2,7 +2,6 @@
 use Rattle.std.specs.Prelude.{◌≡◌, refl, List, [], ◌∷◌, ℕ, zero, suc, ◌+◌, ◌*◌, ◌/◌, ◌%◌, ◌≤◌, ◌<◌, length, get_or, set}
 use Rattle.std.proofs.Common.{sym, ap, ◌∙◌, arith}
 use Rattle.std.proofs.Math.Seq.{paste}
-use Rattle.words.specs.Laid.{Laid}
 use Rattle.words.specs.BytesLaws.{copy_turn}
 use Rattle.text.specs.Hex.{digit_of, hex_of}
 
@@ -35,8 +34,3 @@ hex_turn d t s at i a b h l p q e =
     let k : i * 2 + 1 + 1 ≡ (i + 1) * 2 = omega arith in
     (λ m. set (set t (at + i * 2) a) (j m) ((q ∙ sym y) m)) ∙
     copy_turn d (set t (at + i * 2) a) (hex_of s) at (i * 2 + 1) (omega arith) (omega arith) one ∙ ap (paste d at (hex_of s)) k
-
-pub hex_end : (d t s : List ℕ) (at i : ℕ) → i ≡ length s → t ≡ paste d at (hex_of s) (i * 2) → Laid d at (hex_of s) t (at + length s * 2)
-hex_end d t s at i e p =
-    let n : i * 2 ≡ length (hex_of s) = omega (arith, length_hex s) in
-    record { end = omega (arith, length_hex s); is = p ∙ ap (paste d at (hex_of s)) n }

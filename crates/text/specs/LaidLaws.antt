@@ -1,18 +1,10 @@
 -- Numbers and fields laid down, and a piece behind others. Assumes nothing.
-use Rattle.std.specs.Prelude.{◌≡◌, List, ◌++◌, ℕ, ◌+◌, ◌≤◌, length}
-use Rattle.std.proofs.Common.{sym, ap, ◌∙◌, arith, length-append}
-use Rattle.std.proofs.Math.Seq.{paste}
-use Rattle.text.specs.Decimal.{last_digits, digit_count, decimal_of, field_of}
+use Rattle.std.specs.Prelude.{List, ◌++◌, ℕ, ◌+◌, ◌≤◌, length}
+use Rattle.std.proofs.Common.{arith, length-append}
+use Rattle.text.specs.Decimal.{digit_count, decimal_of, field_of}
 use Rattle.text.specs.DecimalLaws.{length_digits, count_most}
 use Rattle.words.specs.Laid.{Laid}
 use Rattle.words.specs.LaidLaws.{laid_then}
-
--- the digits that a number takes are its decimal
-pub laid_digits : (d u : List ℕ) (at w n : ℕ) → w ≡ digit_count 20 n → u ≡ paste d at (last_digits w n) w → Laid d at (decimal_of n) u (at + w)
-unfolding decimal_of
-laid_digits d u at w n e p =
-    let l : w ≡ length (decimal_of n) = sym (length_digits (digit_count 20 n) n ∙ sym e) in
-    record { end = ap (λ (k : ℕ). at + k) l; is = p ∙ (λ t. paste d at (last_digits (e t) n) (l t)) }
 
 -- a number takes 20 digits at most
 pub length_decimal : (n : ℕ) → length (decimal_of n) ≤ 20

@@ -5,33 +5,28 @@ ghost use Rattle.text.specs.Decimal.{last_digits, digit_count, decimal_of, field
 ghost use Rattle.words.specs.Laid.{Laid};
 
 // How many decimal digits a number takes.
+#[tactic(auto, using(crate::specs::DecimalLaws::count_power))]
 fn digits(n: u64) -> usize
     ensures { result ≡ digit_count 20 n }
 {
-    let mut x = n;
-    let mut k = 1;
-    while 10 <= x {
-        x /= 10;
-        k += 1;
-    }
-    k
+    n.max(1).ilog10() as usize + 1
 }
 
 // The last w digits of a number, at a place: the last first.
+#[tactic(auto, using(crate::specs::DecimalLaws::put_turn))]
 fn put_digits(out: &mut [u8], at: usize, w: usize, n: u64)
     requires { at + w ≤ length out.old }
     ensures { out.new ≡ paste out.old at (last_digits w n) w }
 {
     let mut x = n;
-    let mut i = w;
-    while 0 < i {
-        i -= 1;
-        out[at + i] = 48 + (x % 10) as u8;
+    for i in (0..w).rev() {
+        out[at + i] = b'0' + (x % 10) as u8;
         x /= 10;
     }
 }
 
 // A number in decimal at a place, and where it ends.
+#[tactic(auto, using(crate::specs::DecimalLaws::count_most, crate::specs::DecimalLaws::length_digits), unfolding(crate::specs::Decimal::decimal_of))]
 fn decimal(out: &mut [u8], at: usize, n: u64) -> usize
     requires { at + 20 ≤ length out.old }
     ensures { Laid out.old at (decimal_of n) out.new result }

@@ -2,44 +2,28 @@
 ghost use Rattle.std.specs.Prelude.{◌≡◌};
 ghost use Rattle.text.specs.Number.{with_digit, parsed_of};
 
-#[derive(Clone, Copy)]
-pub enum ParsedNumber {
-    Number(u64),
-    Bad,
-}
-
 // A number and a digit behind it.
-fn with_digit(n: u64, x: u8) -> ParsedNumber
+#[tactic(auto, unfolding(crate::specs::Number::with_digit))]
+fn with_digit(n: u64, x: u8) -> Option<u64>
     ensures { result ≡ with_digit n x }
 {
-    if x < 48 {
-        return ParsedNumber::Bad;
+    if !x.is_ascii_digit() {
+        return None;
     }
-    if x > 57 {
-        return ParsedNumber::Bad;
-    }
-    let d = (x - 48) as u64;
-    if n > (18446744073709551615 - d) / 10 {
-        return ParsedNumber::Bad;
-    }
-    ParsedNumber::Number(n * 10 + d)
+    n.checked_mul(10)?.checked_add(u64::from(x - b'0'))
 }
 
-pub fn parse(s: &[u8]) -> ParsedNumber
+// The number that decimal digits write, where it is below 2^64.
+#[tactic(auto, using(crate::specs::NumberLaws::parsed_none, crate::specs::NumberLaws::parsed_start, crate::specs::NumberLaws::parsed_turn, crate::specs::NumberLaws::parsed_bad, crate::specs::NumberLaws::parsed_end))]
+pub fn parse(s: &[u8]) -> Option<u64>
     ensures { result ≡ parsed_of s.now }
 {
-    if s.len() == 0 {
-        return ParsedNumber::Bad;
+    if s.is_empty() {
+        return None;
     }
     let mut n = 0;
-    let mut i = 0;
-    while i < s.len() {
-        let p = with_digit(n, s[i]);
-        match p {
-            ParsedNumber::Bad => return ParsedNumber::Bad,
-            ParsedNumber::Number(m) => n = m,
-        }
-        i += 1;
+    for &x in s {
+        n = with_digit(n, x)?;
     }
-    ParsedNumber::Number(n)
+    Some(n)
 }

@@ -1,6 +1,5 @@
 -- A choice by a test, and the few words on tests that the rules use.
 use Rattle.std.specs.Prelude.{Bool, true, false, ℕ}
-use Rattle.std.proofs.Math.Option.{Option, some, none}
 
 -- the first where the test holds, else the second
 abbrev pub pick : {A : Type 0} → Bool → A → A → A
@@ -16,8 +15,3 @@ either a b = pick a true b
 -- 1 for yes, 0 for no
 abbrev pub bit : Bool → ℕ
 bit a = pick a 1 0
-
--- whether there is one
-abbrev pub is_some : {A : Type 0} → Option A → Bool
-is_some none = false
-is_some (some a) = true

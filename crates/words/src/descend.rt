@@ -4,13 +4,14 @@ ghost use Rattle.words.specs.Wide.{wide, Divides};
 
 use super::product::{Wide, product};
 
+// Quotient and remainder, both numbers of one word or of two.
 #[derive(Clone, Copy)]
-pub struct Divided {
-    pub q: Wide,
-    pub r: Wide,
+pub struct Divided<T> {
+    pub q: T,
+    pub r: T,
 }
 
-// Whether a is at most b.
+// Whether a is at most b. By a derived order the proof of what `wide` says did not close.
 fn at_most(a: Wide, b: Wide) -> bool
     ensures { result ≡ leb (wide a) (wide b) }
 {
@@ -38,7 +39,7 @@ fn minus(a: Wide, b: Wide) -> Wide
 
 // n by d, from an estimate of the quotient, which comes down while its product with d is above n.
 // How often it comes down is no part of the contract.
-pub(crate) fn descend(n: Wide, d: Wide, from: u64) -> Divided
+pub(crate) fn descend(n: Wide, d: Wide, from: u64) -> Divided<Wide>
     requires { (0 < wide d) × (wide n / wide d ≤ from) × (from * d.hi ≤ n.hi) }
     ensures { Divides (wide n) (wide d) (wide result.q) (wide result.r) }
 {

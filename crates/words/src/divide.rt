@@ -5,15 +5,8 @@ ghost use Rattle.words.specs.Wide.{wide, Divides};
 use super::descend::{Divided, descend};
 use super::product::{HALF, Wide};
 
-// Quotient and remainder of one word each.
-#[derive(Clone, Copy)]
-struct Short {
-    q: u64,
-    r: u64,
-}
-
 // One digit of 32 bits: rest and the next half word, by v. The estimate is by v's upper half.
-fn digit(rest: u64, next: u64, v: u64) -> Short
+fn digit(rest: u64, next: u64, v: u64) -> Divided<u64>
     requires { (2 ^ 32 ≤ v) × (rest < v) × (next < 2 ^ 32) }
     ensures { (Divides (rest * 2 ^ 32 + next) v result.q result.r) × (result.q < 2 ^ 32) }
 {
@@ -23,7 +16,7 @@ fn digit(rest: u64, next: u64, v: u64) -> Short
     };
     let d = Wide { hi: 0, lo: v };
     let x = descend(n, d, rest / (v / HALF));
-    Short {
+    Divided {
         q: x.q.lo,
         r: x.r.lo,
     }
@@ -63,7 +56,7 @@ pub(crate) fn two_by_one(hi: u64, lo: u64, v: u64) -> u64
 }
 
 // A divisor of one word: the quotient's upper word, then its lower.
-fn by_word(n: Wide, d: u64) -> Divided
+fn by_word(n: Wide, d: u64) -> Divided<Wide>
     requires { 0 < d }
     ensures { Divides (wide n) d (wide result.q) (wide result.r) }
 {
@@ -91,7 +84,7 @@ fn upper(n: Wide, s: u64) -> Wide
 }
 
 // A divisor of two words. A power of two brings it to the top of three words, and the upper words of both give the estimate.
-fn by_wide(n: Wide, d: Wide) -> Divided
+fn by_wide(n: Wide, d: Wide) -> Divided<Wide>
     requires { 0 < d.hi }
     ensures { Divides (wide n) (wide d) (wide result.q) (wide result.r) }
 {
@@ -102,7 +95,7 @@ fn by_wide(n: Wide, d: Wide) -> Divided
 }
 
 // Quotient and remainder, for every divisor but 0.
-pub fn divide(n: Wide, d: Wide) -> Divided
+pub fn divide(n: Wide, d: Wide) -> Divided<Wide>
     requires { 0 < wide d }
     ensures { Divides (wide n) (wide d) (wide result.q) (wide result.r) }
 {

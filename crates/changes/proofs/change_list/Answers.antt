@@ -1,84 +1,60 @@
 -- `changes::change_list` meets its contract: the counted rows, the store and the loader are checked in turn. Assumes nothing.
-use mathlib.Core.Path.{◌≡◌, sym, ◌∙◌}
-use mathlib.Core.Bool.{true, false}
-use mathlib.Core.Option.{some}
-use Prim.Native.Nat.{ℕ}
-use native.Mathlib.Omega.{arith}
-use Rattle.tables.specs.Rows.{rows}
+use Rattle.std.specs.Prelude.{◌≡◌, Some, Err}
+use Rattle.std.proofs.Common.{ap, ◌∙◌}
+use Rattle.std.proofs.lemmas.Option.{MatchOption-at_some, MatchOption-at_none}
+use Rattle.std.proofs.lemmas.Result.{err_from_is_err_and}
 use Rattle.tables.specs.Checked.{checked_of}
-use Rattle.tables.specs.CheckTheorems.{whole_table, table_if}
-use Rattle.tables.specs.declared.check.Checked.TheVariants.{Whole}
-use Rattle.changes.specs.ChangeList.{ChangesLent, lent, counted_rows, list_of}
-use Rattle.changes.specs.AnswerLaws.{LoaderRows, loader_rows_lem, loader_bad, no_changes, no_store, no_loader, listed}
-use Rattle.changes.specs.AnswerLaws.{ends_bad, ends_as, stored_past, stored_by}
+use Rattle.tables.specs.Content.{content}
+use Rattle.changes.specs.ChangeList.{ChangesLent, lent, counted_rows, rows_of, list_of}
+use Rattle.changes.specs.AnswerLaws.{counted_some, stored_some, stored_none, loader_some, loader_none, no_changes, no_store, no_loader, listed, ends_bad, ends_as, refused_by}
 use Rattle.changes.proofs.change_list.Goals as goal
-use Rattle.changes.proofs.change_list.Goals.{Else-not-rising, In-Whole, In-Whole-l, Start}
+use Rattle.changes.proofs.change_list.Goals.{Start, In_ok-changes, In_ok-store}
 
 -- what is lent
 abbrev given : Start → ChangesLent
-given start =
-    let a = start.args in
-    lent a.changes.now a.count a.store.now a.has_loader a.loader.now
+given s = let a = s.args in lent a.changes.now a.count a.store.now a.has_loader a.loader.now
 
--- past both tests the counted rows stand and rise
-abbrev lent_at : Else-not-rising → ChangesLent
-lent_at risen = given (goal.at-Else-not-rising risen).Start
+counted : (c : In_ok-changes) → let a = c.args in counted_rows a.changes.now a.count ≡ Some (content c.in_ok-changes.changes)
+counted c =
+    let told = MatchOption-at_some _ _ _ c.in_ok-changes.ensures.ok_part c.counted.ensures in
+    counted_some c.args.changes.now c.in_ok-changes.changes told.0 c.args.count told.1
 
-stood : (risen : Else-not-rising) → let l = lent_at risen in counted_rows l.changes l.count ≡ some (rows 40 l.count l.changes)
-stood risen =
-    let l = lent_at risen in
-    let rises = sym risen.if-not-rising.false ∙ risen.rising.ensures in
-    stored_by l.changes l.count true risen.if-changes-count.false rises
+pub returns-in_err-changes : goal.returns-in_err-changes
+returns-in_err-changes c =
+    let l = given (goal.at-returns-in_err-changes c).Start in
+    let told = c.in_err-changes.ensures in
+    let p = err_from_is_err_and c.from_residual.result c.from_residual.ensures.1 in
+    let ends = ends_bad (list_of l) c.args.out.now (no_changes l (MatchOption-at_none _ _ told.ok_part c.counted.ensures)) in
+    record { answer = p.1 ∙ ap Err (p.2 ∙ refused_by _ _ _ told.value) ∙ ends.0; output = ends.1 }
 
-abbrev ns : In-Whole → ℕ
-ns whole = whole.in-Whole.ns
+stored : (c : In_ok-store) → let t = c.args.store.now in rows_of (checked_of 40 t) t ≡ Some (content c.in_ok-store.store)
+stored c =
+    let told = MatchOption-at_some _ _ _ c.in_ok-store.ensures.ok_part c.check.ensures in
+    stored_some c.args.store.now c.in_ok-store.store told.0 told.1
 
-store_whole : (whole : In-Whole) → checked_of 40 (lent_at (goal.at-In-Whole whole).Else-not-rising).store ≡ Whole (ns whole)
-store_whole whole = sym whole.check-s.ensures ∙ whole.in-Whole.is
+pub returns-in_err-store : goal.returns-in_err-store
+returns-in_err-store c =
+    let l = given (goal.at-returns-in_err-store c).Start in
+    let told = c.in_err-store.ensures in
+    let p = err_from_is_err_and c.from_residual-in_err-store.result c.from_residual-in_err-store.ensures.1 in
+    let none = stored_none l.store (MatchOption-at_none _ _ told.ok_part c.check.ensures) in
+    let ends = ends_bad (list_of l) c.args.out.now (no_store l _ (counted (goal.at-returns-in_err-store c).In_ok-changes) none) in
+    record { answer = p.1 ∙ ap Err (p.2 ∙ refused_by _ _ _ told.value) ∙ ends.0; output = ends.1 }
 
-abbrev nl : In-Whole-l → ℕ
-nl both = both.in-Whole-l.nl
+pub returns-in_err-loader : goal.returns-in_err-loader
+returns-in_err-loader c =
+    let l = given (goal.at-returns-in_err-loader c).Start in
+    let told = c.in_err-loader.ensures in
+    let p = err_from_is_err_and c.from_residual-in_err-loader.result c.from_residual-in_err-loader.ensures.1 in
+    let none = loader_none l.has_loader l.loader (MatchOption-at_none _ _ told.ok_part c.check_if.ensures) in
+    let known = no_loader l _ (counted (goal.at-returns-in_err-loader c).In_ok-changes) _ (stored (goal.at-returns-in_err-loader c).In_ok-store) none in
+    let ends = ends_bad (list_of l) c.args.out.now known in
+    record { answer = p.1 ∙ ap Err (p.2 ∙ refused_by _ _ _ told.value) ∙ ends.0; output = ends.1 }
 
-loader_whole : (both : In-Whole-l) → let l = lent_at (goal.at-In-Whole-l both).Else-not-rising in LoaderRows l.has_loader l.loader (nl both)
-loader_whole both = sym both.check_if-l.ensures ∙ both.in-Whole-l.is
-
-pub returns-then-changes-count : goal.returns-then-changes-count
-returns-then-changes-count c = let whole =
-    let l = given (goal.at-returns-then-changes-count c).Start in
-    ends_bad (list_of l) _ (no_changes l (stored_past l.changes l.count c.if-changes-count.true))
-    in record { answer = whole.0; output = whole.1 }
-
-pub returns-then-not-rising : goal.returns-then-not-rising
-returns-then-not-rising c = let whole =
-    let l = given (goal.at-returns-then-not-rising c).Start in
-    let falls = sym c.if-not-rising.true ∙ c.rising.ensures in
-    ends_bad (list_of l) _ (no_changes l (stored_by l.changes l.count false c.if-changes-count.false falls))
-    in record { answer = whole.0; output = whole.1 }
-
-pub list-requires : goal.list-requires
-list-requires c =
-    let l = lent_at (goal.at-list-requires c).Else-not-rising in (
-      whole_table 40 l.store (omega arith) (ns (goal.at-list-requires c).In-Whole) (store_whole (goal.at-list-requires c).In-Whole),
-      table_if 40 l.loader (omega arith) l.has_loader (nl (goal.at-list-requires c).In-Whole-l) (loader_whole (goal.at-list-requires c).In-Whole-l),
-      omega (arith, c.if-changes-count.false),
-    )
-
-pub returns-in-Bad : goal.returns-in-Bad
-returns-in-Bad c = let whole =
-    let l = lent_at (goal.at-returns-in-Bad c).Else-not-rising in
-    ends_bad (list_of l) _ (no_store l _ (stood (goal.at-returns-in-Bad c).Else-not-rising) (sym c.check-s.ensures ∙ c.in-Bad.is))
-    in record { answer = whole.0; output = whole.1 }
-
-pub returns-in-Bad-l : goal.returns-in-Bad-l
-returns-in-Bad-l c = let whole =
-    let l = lent_at (goal.at-returns-in-Bad-l c).Else-not-rising in
-    let bad = loader_bad l.has_loader l.loader (sym c.check_if-l.ensures ∙ c.in-Bad-l.is) in
-    ends_bad (list_of l) _ (no_loader l _ (stood (goal.at-returns-in-Bad-l c).Else-not-rising) (ns (goal.at-returns-in-Bad-l c).In-Whole) (store_whole (goal.at-returns-in-Bad-l c).In-Whole) bad)
-    in record { answer = whole.0; output = whole.1 }
-
-pub returns-in-Whole-l : goal.returns-in-Whole-l
-returns-in-Whole-l c = let whole =
-    let l = lent_at (goal.at-returns-in-Whole-l c).Else-not-rising in
-    let rows-of-loader = loader_rows_lem l.has_loader l.loader (nl (goal.at-returns-in-Whole-l c).In-Whole-l) (loader_whole (goal.at-returns-in-Whole-l c).In-Whole-l) in
-    ends_as (list_of l) _ _ _ _ (listed l _ (stood (goal.at-returns-in-Whole-l c).Else-not-rising) (ns (goal.at-returns-in-Whole-l c).In-Whole) (store_whole (goal.at-returns-in-Whole-l c).In-Whole) _ rows-of-loader) (c.list.ensures.answer, c.list.ensures.output)
-    in record { answer = whole.0; output = whole.1 }
+pub returns : goal.returns
+returns c =
+    let l = given (goal.at-returns c).Start in
+    let told = MatchOption-at_some _ _ _ c.in_ok-loader.ensures.ok_part c.check_if.ensures in
+    let known = listed l _ (counted (goal.at-returns c).In_ok-changes) _ (stored (goal.at-returns c).In_ok-store) _ (loader_some l.loader c.in_ok-loader.loader told.0 l.has_loader told.1) in
+    let ends = ends_as (list_of l) _ _ _ _ known (c.list.ensures.answer, c.list.ensures.output) in
+    record { answer = ends.0; output = ends.1 }

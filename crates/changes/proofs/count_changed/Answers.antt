@@ -1,49 +1,47 @@
--- `changes::count_changed` meets its contract: k changed among the first i rows, and what is left decides. Assumes nothing.
-use mathlib.Core.Path.{◌≡◌, refl, sym, ap, ◌∙◌}
-use mathlib.Core.Bool.{Bool, true, false}
-use mathlib.Core.List.{List, ◌∷◌}
-use Prim.Native.Nat.{◌+◌}
-use native.Mathlib.Omega.{arith}
-use lib.ListN.{length}
-use Rattle.words.specs.Choice.{pick}
-use Rattle.tables.specs.Rows.{Row, row_in, rows}
-use Rattle.changes.specs.LeftLaws.{row_part, part_length, left, left_all, left_none, left_by_lem}
+-- `changes::count_changed` meets its contract: k changed so far, and what is left decides. Assumes nothing.
+use Rattle.std.specs.Prelude.{ℕ, ◌<◌, ◌≡◌, ◌*◌, length, take, false, true}
+use Rattle.std.proofs.Common.{ap, ◌∙◌, arith, length-append, length-take-le}
+use Rattle.std.specs.Slice.Iter.{chunks_exact_rest, chunks_exact_size}
+use Rattle.tables.specs.Content.{content}
+use Rattle.changes.specs.ChangeList.{changed}
+use Rattle.changes.specs.LeftLaws.{rows_in, rows_taken, left_by_lem, left_none}
 use Rattle.changes.proofs.count_changed.Goals as goal
-use Rattle.changes.proofs.count_changed.Goals.{After-unchanged-same, Start}
 
--- the store's and the loader's rows
-abbrev ss : Start → List Row
-ss s = rows 40 s.args.ns s.args.store.now
+pub loop-row-init : goal.loop-row-init
+loop-row-init c =
+    let t = c.args.changes in
+    let e = c.into_iter-row-iterator.ensures.into_iter_gives in
+    let r : chunks_exact_rest c.into_iter-row-iterator.result ≡ take (t.count * 40) t.bytes.now =
+    ap chunks_exact_rest e ∙ c.chunks_exact-row-items.ensures.rest in
+    let all = ap rows_in r ∙ rows_taken t.count t.bytes.now t.table.fits in
+    record {
+      size = ap chunks_exact_size e ∙ c.chunks_exact-row-items.ensures.size;
+      fits = omega (arith, ap length r, length-take-le (t.count * 40) t.bytes.now t.table.fits);
+      left = omega (arith, ap length (ap (changed (content c.args.store) (content c.args.loader)) all));
+    }
 
-abbrev ls : Start → List Row
-ls s = rows 40 s.args.nl s.args.loader.now
+pub loop-row-preserved-then-not-unchanged : goal.loop-row-preserved-then-not-unchanged
+loop-row-preserved-then-not-unchanged c =
+    let (cut, size) = c.in-Some.ensures.steps.1 in
+    let l = size ∙ c.loop-row.invariant.size in
+    record {
+      size = c.in-Some.ensures.steps.0 ∙ c.loop-row.invariant.size;
+      fits = omega (arith, c.loop-row.invariant.fits, ap length cut, length-append {A = ℕ}, l);
+      left = omega (arith, c.loop-row.invariant.left, ap length (left_by_lem _ _ _ cut l _ _ false c.if-not-unchanged.ensures));
+    }
 
-pub loop-i-init : goal.loop-i-init
-loop-i-init c =
-    (omega arith, omega (arith, ap length (left_all (ss (goal.at-loop-i-init c).Start) (ls (goal.at-loop-i-init c).Start) c.args.changes.now c.args.n 0 refl)))
-
-pub unchanged-same-requires : goal.unchanged-same-requires
-unchanged-same-requires c =
-    (c.requires.0, c.requires.1, part_length c.args.changes.now c.args.n c.loop-i.i c.loop-i-test.true c.requires.2)
-
--- what is left goes by whether row i kept its value
-left_after : (asked : After-unchanged-same) (b : Bool) → b ≡ asked.unchanged-same.result →
-    let t = asked.args.changes.now in
-    let rest = left (ss (goal.at-After-unchanged-same asked).Start) (ls (goal.at-After-unchanged-same asked).Start) t asked.args.n (asked.loop-i.i + 1) in
-    left (ss (goal.at-After-unchanged-same asked).Start) (ls (goal.at-After-unchanged-same asked).Start) t asked.args.n asked.loop-i.i ≡ pick b rest (row_in 40 (row_part t asked.loop-i.i) ∷ rest)
-left_after asked b e =
-    left_by_lem (ss (goal.at-After-unchanged-same asked).Start) (ls (goal.at-After-unchanged-same asked).Start) asked.args.changes.now asked.args.n asked.loop-i.i asked.loop-i-test.true asked.requires.2 b
-    (e ∙ asked.unchanged-same.ensures)
-
-pub loop-i-preserved-then-same : goal.loop-i-preserved-then-same
-loop-i-preserved-then-same c =
-    (omega arith, omega (arith, c.loop-i.invariant.1, ap length (left_after (goal.at-loop-i-preserved-then-same c).After-unchanged-same true (sym c.if-same.true))))
-
-pub loop-i-preserved : goal.loop-i-preserved
-loop-i-preserved c =
-    (omega arith, omega (arith, c.loop-i.invariant.1, ap length (left_after (goal.at-loop-i-preserved c).After-unchanged-same false (sym c.if-same.false))))
+pub loop-row-preserved : goal.loop-row-preserved
+loop-row-preserved c =
+    let (cut, size) = c.in-Some.ensures.steps.1 in
+    let l = size ∙ c.loop-row.invariant.size in
+    record {
+      size = c.in-Some.ensures.steps.0 ∙ c.loop-row.invariant.size;
+      fits = omega (arith, c.loop-row.invariant.fits, ap length cut, length-append {A = ℕ}, l);
+      left = omega (arith, c.loop-row.invariant.left, ap length (left_by_lem _ _ _ cut l _ _ true c.if-not-unchanged.ensures));
+    }
 
 pub returns : goal.returns
 returns c =
-    let none = left_none (ss (goal.at-returns c).Start) (ls (goal.at-returns c).Start) c.args.changes.now c.args.n c.loop-i.i c.loop-i-test.false in
-    omega (arith, c.loop-i.invariant.1, ap length none)
+    let short : length (chunks_exact_rest c.loop-row.row-iterator) < 40 = omega (arith, c.in-None.ensures.steps.1.0, c.loop-row.invariant.size) in
+    let none = left_none (content c.args.store) (content c.args.loader) _ short in
+    omega (arith, c.loop-row.invariant.left, ap length none)

@@ -1,15 +1,15 @@
-use mathlib.Core.Path.{◌≡◌}
-use Prim.Native.Nat.{◌+◌, ◌≤◌, ◌-◌}
-use lib.ListN.{length}
-use Rattle.tables.specs.Rows.{rows}
+use Rattle.std.specs.Prelude.{◌≡◌, ◌+◌, ◌*◌, ◌≤◌, length}
+use Rattle.std.specs.Slice.Iter.{chunks_exact_rest, chunks_exact_size}
+use Rattle.tables.specs.Content.{content}
+use Rattle.changes.specs.ChangeList.{changed}
 use Rattle.changes.specs.Changed.{changed_in}
-use Rattle.changes.specs.LeftLaws.{left}
+use Rattle.changes.specs.LeftLaws.{rows_in}
 use Rattle.changes.proofs.count_changed.Given as goal
 
-abbrev pub invariant-loop-i : goal.invariant-loop-i
-invariant-loop-i l =
-    (l.k ≤ l.i) ×
-    (length (changed_in l.changes l.n l.store l.ns l.loader l.nl) ≡ l.k + length (left (rows 40 l.ns l.store) (rows 40 l.nl l.loader) l.changes l.n l.i))
-
-abbrev pub decreases-loop-i : goal.decreases-loop-i
-decreases-loop-i l = l.n - l.i
+-- k changed so far, and what is left decides
+abbrev pub invariant-loop-row : goal.invariant-loop-row
+invariant-loop-row l = let r = chunks_exact_rest l.row-iterator in record {
+  size : chunks_exact_size l.row-iterator ≡ 40;
+  fits : l.k * 40 + length r ≤ l.changes.count * 40;
+  left : length (changed_in l.changes l.store l.loader) ≡ l.k + length (changed (content l.store) (content l.loader) (rows_in r));
+}

@@ -8,10 +8,6 @@ returns-then-out-k c = let whole =
     ends_short _ _ _ c.count_changed-k.ensures (omega (arith, c.if-out-k.true))
     in record { answer = whole.0; output = whole.1 }
 
-pub write_changed-requires : goal.write_changed-requires
-write_changed-requires c =
-    (c.requires.0, c.requires.1, c.requires.2, omega (arith, c.count_changed-k.ensures, c.if-out-k.false))
-
 pub returns : goal.returns
 returns c = let whole =
     ends_rows _ _ _ _ c.count_changed-k.ensures c.if-out-k.false c.write_changed.ensures

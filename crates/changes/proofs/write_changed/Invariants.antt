@@ -1,10 +1,11 @@
-use Prim.Native.Nat.{◌-◌}
-use Rattle.tables.specs.Rows.{rows}
+use Rattle.std.specs.Prelude.{◌≡◌}
+use Rattle.std.specs.Slice.Iter.{chunks_exact_rest, chunks_exact_size}
+use Rattle.tables.specs.Content.{content}
 use Rattle.changes.specs.WriteLaws.{Writing}
 use Rattle.changes.proofs.write_changed.Given as goal
 
-abbrev pub invariant-loop-i : goal.invariant-loop-i
-invariant-loop-i l = Writing (rows 40 l.ns l.store) (rows 40 l.nl l.loader) l.changes l.n l.initial.out l.out l.to l.i
-
-abbrev pub decreases-loop-i : goal.decreases-loop-i
-decreases-loop-i l = l.n - l.i
+abbrev pub invariant-loop-row : goal.invariant-loop-row
+invariant-loop-row l = record {
+  size : chunks_exact_size l.row-iterator ≡ 40;
+  writing : Writing (content l.store) (content l.loader) (content l.changes) l.initial.out l.out l.to (chunks_exact_rest l.row-iterator);
+}

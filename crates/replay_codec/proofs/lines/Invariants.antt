@@ -1,8 +1,5 @@
-use Rattle.std.proofs.Common.{◌≤◌, length, ◌-◌}
+use Rattle.std.proofs.Common.{length}
 use Rattle.replay_codec.proofs.lines.Given as goal
 
-abbrev pub invariant-loop-at : goal.invariant-loop-at
-invariant-loop-at g l = l.at ≤ length l.input
-
-abbrev pub decreases-loop-at : goal.decreases-loop-at
-decreases-loop-at g l = length l.input - l.at
+abbrev pub decreases-loop-head : goal.decreases-loop-head
+decreases-loop-head g l = length l.rest

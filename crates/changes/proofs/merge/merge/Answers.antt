@@ -1,47 +1,39 @@
 -- `merge::merge` meets its contract: refused in order, else the rows are merged. Assumes nothing.
-use mathlib.Core.Path.{refl, sym, ap, ◌∙◌}
-use mathlib.Core.Bool.{true, false}
-use native.Mathlib.Omega.{arith}
-use Rattle.tables.specs.CheckTheorems.{checks_exactly, whole_table}
-use Rattle.tables.specs.declared.check.Checked.{Checked}
-use Rattle.changes.specs.ChangeList.{rows_of}
-use Rattle.changes.specs.AnswerLaws.{stored_past, stored_by}
+use Rattle.std.specs.Prelude.{Err, length, refl}
+use Rattle.std.proofs.Common.{ap, ◌∙◌, arith}
+use Rattle.std.proofs.lemmas.Option.{MatchOption-at_some, MatchOption-at_none}
+use Rattle.std.proofs.lemmas.Result.{err_from_is_err_and}
+use Rattle.tables.specs.CheckTheorems.{checks_exactly}
+use Rattle.changes.specs.AnswerLaws.{counted_some, stored_some, stored_none, refused_by}
 use Rattle.changes.specs.MergeLaws.{merges_none, merges_bad, merges_as}
 use Rattle.changes.proofs.merge.merge.Goals as goal
 
-pub returns-then-changes-count : goal.returns-then-changes-count
-returns-then-changes-count c = let whole =
-    let a = c.args in
-    merges_as _ _ _ (stored_past a.changes.now a.count c.if-changes-count.true) refl (merges_none _ a.out.now)
-    in record { answer = whole.0; output = whole.1 }
+pub returns-in_err-changes : goal.returns-in_err-changes
+returns-in_err-changes c =
+    let told = c.in_err-changes.ensures in
+    let p = err_from_is_err_and c.from_residual.result c.from_residual.ensures.1 in
+    let none = MatchOption-at_none _ _ told.ok_part c.counted.ensures in
+    let ends = merges_as _ _ _ none refl (merges_none _ c.args.out.now) in
+    record { answer = p.1 ∙ ap Err (p.2 ∙ refused_by _ _ _ told.value) ∙ ends.0; output = ends.1 }
 
-pub returns-then-not-rising : goal.returns-then-not-rising
-returns-then-not-rising c = let whole =
-    let a = c.args in
-    let falls = sym c.if-not-rising.true ∙ c.rising.ensures in
-    merges_as _ _ _ (stored_by a.changes.now a.count false c.if-changes-count.false falls) refl (merges_none _ a.out.now)
-    in record { answer = whole.0; output = whole.1 }
+pub returns-in_err-store : goal.returns-in_err-store
+returns-in_err-store c =
+    let told = c.in_err-store.ensures in
+    let p = err_from_is_err_and c.from_residual-in_err-store.result c.from_residual-in_err-store.ensures.1 in
+    let none = stored_none c.args.store.now (MatchOption-at_none _ _ told.ok_part c.check.ensures) in
+    let ends = merges_as _ _ _ refl none (merges_bad _ c.args.out.now) in
+    record { answer = p.1 ∙ ap Err (p.2 ∙ refused_by _ _ _ told.value) ∙ ends.0; output = ends.1 }
 
 pub merge_whole-requires : goal.merge_whole-requires
 merge_whole-requires c =
-    let t = c.args.store.now in
-    let e = sym c.check-s.ensures ∙ c.in-Whole.is in
-    (whole_table 40 t (omega arith) _ e, ((checks_exactly 40 t (omega arith) _).0 e).0, omega (arith, c.if-changes-count.false))
+    let told = MatchOption-at_some _ _ _ c.in_ok-store.ensures.ok_part c.check.ensures in
+    ap length told.0 ∙ ((checks_exactly 40 c.args.store.now (omega arith) _).0 told.1).0
 
-pub returns-in-Bad : goal.returns-in-Bad
-unfolding rows_of
-returns-in-Bad c = let whole =
-    let a = c.args in
-    let e = sym c.check-s.ensures ∙ c.in-Bad.is in
-    merges_as _ _ _ refl (ap (λ (k : Checked). rows_of k a.store.now) e) (merges_bad _ a.out.now)
-    in record { answer = whole.0; output = whole.1 }
-
-pub returns-in-Whole : goal.returns-in-Whole
-unfolding rows_of
-returns-in-Whole c = let whole =
-    let a = c.args in
-    let rises = sym c.if-not-rising.false ∙ c.rising.ensures in
-    let e = sym c.check-s.ensures ∙ c.in-Whole.is in
-    merges_as _ _ _ (stored_by a.changes.now a.count true c.if-changes-count.false rises)
-    (ap (λ (k : Checked). rows_of k a.store.now) e) (c.merge_whole.ensures.answer, c.merge_whole.ensures.output)
-    in record { answer = whole.0; output = whole.1 }
+pub returns : goal.returns
+returns c =
+    let counted = MatchOption-at_some _ _ _ c.in_ok-changes.ensures.ok_part c.counted.ensures in
+    let stored = MatchOption-at_some _ _ _ c.in_ok-store.ensures.ok_part c.check.ensures in
+    let cs = counted_some c.args.changes.now c.in_ok-changes.changes counted.0 c.args.count counted.1 in
+    let ss = stored_some c.args.store.now c.in_ok-store.store stored.0 stored.1 in
+    let ends = merges_as _ _ _ cs ss (c.merge_whole.ensures.answer, c.merge_whole.ensures.output) in
+    record { answer = ends.0; output = ends.1 }

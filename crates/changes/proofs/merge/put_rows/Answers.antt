@@ -1,25 +1,29 @@
--- `merge::put_rows` meets its contract: i rows are in, and what is left decides. Assumes nothing.
-use native.Mathlib.Omega.{arith}
-use Rattle.changes.specs.LeftLaws.{part_length}
+-- `merge::put_rows` meets its contract: the rows so far are in, and what is left decides. Assumes nothing.
+use Rattle.std.specs.Prelude.{◌≡◌, ◌*◌, length, take}
+use Rattle.std.proofs.Common.{ap, ◌∙◌, arith, length-take-le}
+use Rattle.std.specs.Slice.Iter.{chunks_exact_rest, chunks_exact_size}
+use Rattle.changes.specs.LeftLaws.{rows_in, rows_taken}
 use Rattle.changes.specs.MergeLaws.{putting_start, putting_turn, putting_end}
 use Rattle.changes.proofs.merge.put_rows.Goals as goal
 
-pub loop-i-init : goal.loop-i-init
-loop-i-init c = putting_start _ _ _ _ c.requires.0
+pub loop-row-init : goal.loop-row-init
+loop-row-init c =
+    let t = c.args.changes in
+    let e = c.into_iter-row-iterator.ensures.into_iter_gives in
+    let r : chunks_exact_rest c.into_iter-row-iterator.result ≡ take (t.count * 40) t.bytes.now =
+    ap chunks_exact_rest e ∙ c.chunks_exact-row-items.ensures.rest in
+    record {
+      size = ap chunks_exact_size e ∙ c.chunks_exact-row-items.ensures.size;
+      putting = putting_start _ c.requires.0 (ap rows_in r ∙ rows_taken t.count t.bytes.now t.table.fits) (ap length r ∙ length-take-le (t.count * 40) t.bytes.now t.table.fits);
+    }
 
-pub put_row-k-requires : goal.put_row-k-requires
-put_row-k-requires c =
-    let v = c.loop-i.invariant in
-    let size = part_length c.args.changes.now c.args.n c.loop-i.i c.loop-i-test.true c.requires.1 in
-    (v.table, size, omega (arith, v.most, v.size, c.requires.2, c.loop-i-test.true))
-
-pub loop-i-preserved : goal.loop-i-preserved
-loop-i-preserved c =
-    putting_turn _ _ _ _ _ _ c.loop-i.k _ c.loop-i.i c.loop-i.invariant c.loop-i-test.true c.requires.1
-    c.put_row-k.auto.t c.put_row-k.ensures
+pub loop-row-preserved : goal.loop-row-preserved
+loop-row-preserved c =
+    let (cut, size) = c.in-Some.ensures.steps.1 in
+    record {
+      size = c.in-Some.ensures.steps.0 ∙ c.loop-row.invariant.size;
+      putting = putting_turn c.loop-row.invariant.putting _ _ _ _ cut (size ∙ c.loop-row.invariant.size) c.put_row-k.auto.t c.put_row-k.ensures;
+    }
 
 pub returns : goal.returns
-returns c = putting_end _ _ _ _ _ c.loop-i.k c.loop-i.i c.loop-i-test.false c.loop-i.invariant
-
-pub shape_of-t : goal.shape_of-t
-shape_of-t c = c.loop-i.invariant.size
+returns c = putting_end c.loop-row.invariant.putting (omega (arith, c.in-None.ensures.steps.1.0, c.loop-row.invariant.size))

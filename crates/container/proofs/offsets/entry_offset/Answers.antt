@@ -1,26 +1,19 @@
 -- `entry_offset` meets its contract: the bytes are read, then the entries searched. Assumes nothing.
-use mathlib.Core.Path.{◌≡◌, sym, ap, ◌∙◌}
-use Rattle.container.specs.Reader.{read_of}
-use Rattle.container.specs.Offsets.{offset_of}
-use Rattle.container.specs.ReadToldLaws.{read_told, refused_told}
-use Rattle.container.specs.OffsetLaws.{offset_by, offset_told}
+use Rattle.std.proofs.lemmas.Result.{err_from_is_err_and}
+use Rattle.container.specs.ReadToldLaws.{read_told}
+use Rattle.container.specs.OffsetLaws.{offset_unreadable, offset_missing, offset_done}
 use Rattle.container.proofs.offsets.entry_offset.Goals as goal
-use Rattle.container.proofs.offsets.entry_offset.Goals.{After-find-f}
 
-pub returns-in-Refused : goal.returns-in-Refused
-unfolding offset_of
-returns-in-Refused c =
-    rw (refused_told c.args.s.now _ (sym c.in-Refused.is ∙ c.read-d.ensures))
+pub returns-in_err-l : goal.returns-in_err-l
+returns-in_err-l c =
+    let p = err_from_is_err_and c.from_residual.result c.from_residual.ensures.1 in
+    rw (p.1, p.2) (offset_unreadable c.args.s.now c.args.selector _ c.in_err-l.ensures)
 
--- what the search found decides
-searched : (c : After-find-f) →
-    offset_by c.find-f.result ≡ offset_of c.args.selector (read_of c.args.s.now)
-searched c =
-    let s = c.args.s.now in
-    offset_told s c.args.selector _ _ (read_told s _ (sym c.in-Done.is ∙ c.read-d.ensures)) c.find-f.ensures
+pub returns-in_err-e : goal.returns-in_err-e
+returns-in_err-e c =
+    let p = err_from_is_err_and c.from_residual-in_err-e.result c.from_residual-in_err-e.ensures.1 in
+    let e = c.in_err-e.ensures in
+    rw (p.1, p.2) (offset_missing c.args.s.now c.args.selector _ (read_told c.args.s.now _ c.in_ok-l.ensures) _ c.find.ensures _ e.value e.ok_part)
 
-pub returns-in-At : goal.returns-in-At
-returns-in-At c = ap offset_by (sym c.in-At.is) ∙ searched (goal.at-returns-in-At c).After-find-f
-
-pub returns-in-Missing : goal.returns-in-Missing
-returns-in-Missing c = ap offset_by (sym c.in-Missing.is) ∙ searched (goal.at-returns-in-Missing c).After-find-f
+pub returns : goal.returns
+returns c = offset_done c.args.s.now c.args.selector _ (read_told c.args.s.now _ c.in_ok-l.ensures) _ c.find.ensures _ c.in_ok-e.ensures.ok_part

@@ -59,18 +59,6 @@ keyed_reads_left : (c : After-put_slots-end-3) →
 unfolding entry_in
 keyed_reads_left c = rest_turn (writes_left (goal.at-After-put_slots-end-3 c).After-put_slots-end-2) c.put_slots-end-3.ensures
 
-pub overflow_add-second : goal.overflow_add-second
-unfolding slots_in
-overflow_add-second c = omega arith
-
-pub overflow_add-third : goal.overflow_add-third
-unfolding slots_in
-overflow_add-third c = omega arith
-
-pub overflow_add-fourth : goal.overflow_add-fourth
-unfolding slots_in
-overflow_add-fourth c = omega arith
-
 pub put_number-end-requires : goal.put_number-end-requires
 put_number-end-requires c = let e = entry (goal.at-put_number-end-requires c).Start in number_room 4 e.selector (offset_on e) (all_left (goal.at-put_number-end-requires c).Start)
 

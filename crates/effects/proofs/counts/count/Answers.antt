@@ -7,7 +7,7 @@ use lib.Dec.{eqb}
 use Rattle.words.specs.Choice.{either}
 use Rattle.words.specs.ChoiceLaws.{bit_small}
 use Rattle.effects.specs.Counts.{count_of}
-use Rattle.effects.specs.WalkLaws.{walk_start, walk_turn, walk_end}
+use Rattle.effects.specs.WalkLaws.{walk_turn, walk_end}
 use Rattle.effects.specs.CountLaws.{count_turn}
 use Rattle.effects.proofs.counts.count.Goals as goal
 use Rattle.effects.proofs.counts.count.Goals.{After-weight-n}
@@ -16,9 +16,6 @@ use Rattle.effects.proofs.counts.count.Goals.{After-weight-n}
 one : (c : After-weight-n) → c.weight-n.result ≤ 1
 one c =
     rw c.weight-n.ensures (bit_small (either c.args.all (eqb c.record_ending_at-t.result.kind 1)))
-
-pub loop-at-init : goal.loop-at-init
-loop-at-init c = (omega arith, walk_start _ _ _ _ (λ x. omega arith))
 
 pub loop-at-preserved : goal.loop-at-preserved
 loop-at-preserved c =
@@ -33,12 +30,3 @@ unfolding count_of
 returns c =
     let turn = c.loop-at in
     λ es s e. sym (add-zero turn.n) ∙ walk_end _ _ _ _ turn.at (omega arith) turn.invariant.1 es s e
-
-pub record_ending_at-t-requires : goal.record_ending_at-t-requires
-record_ending_at-t-requires c = (omega arith, omega arith)
-
-pub overflow_add-n : goal.overflow_add-n
-overflow_add-n c = omega (arith, one c)
-
-pub loop-at-smaller : goal.loop-at-smaller
-loop-at-smaller c = c.record_ending_at-t.ensures.less

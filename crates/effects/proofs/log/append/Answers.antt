@@ -4,11 +4,8 @@ use Rattle.effects.specs.Log.{Effect}
 use Rattle.effects.specs.AppendLaws.{no_room, pasted, appended}
 use Rattle.effects.proofs.log.append.Goals as goal
 
-pub returns-then-room-n : goal.returns-then-room-n
-returns-then-room-n c = no_room _ _ _ (omega arith)
-
-pub returns-then-room-n-lt13 : goal.returns-then-room-n-lt13
-returns-then-room-n-lt13 c = no_room _ _ _ (omega arith)
+pub returns-then-log-end : goal.returns-then-log-end
+returns-then-log-end c = no_room _ _ _ (omega arith)
 
 pub returns : goal.returns
 returns c =

@@ -1,14 +1,11 @@
 -- `effects::targets::any_target` meets its contract: the records before `at` decide. Assumes nothing.
-use mathlib.Core.Path.{refl, sym, ◌∙◌}
+use mathlib.Core.Path.{sym, ◌∙◌}
 use mathlib.Core.Bool.{true}
 use native.Mathlib.Omega.{arith}
 use Rattle.effects.specs.Targets.{any_target}
-use Rattle.effects.specs.WalkLaws.{walk_start, walk_turn, walk_stop, walk_end}
+use Rattle.effects.specs.WalkLaws.{walk_turn, walk_stop, walk_end}
 use Rattle.effects.specs.TargetLaws.{any_told}
 use Rattle.effects.proofs.targets.any_target.Goals as goal
-
-pub loop-at-init : goal.loop-at-init
-loop-at-init c = (omega arith, walk_start _ _ _ _ (λ x. refl))
 
 pub returns-then-durable : goal.returns-then-durable
 returns-then-durable c =
@@ -29,9 +26,3 @@ loop-at-preserved c =
 pub returns : goal.returns
 unfolding any_target
 returns c = let turn = c.loop-at in walk_end _ _ _ _ turn.at (omega arith) turn.invariant.1
-
-pub record_ending_at-t-requires : goal.record_ending_at-t-requires
-record_ending_at-t-requires c = (omega arith, omega arith)
-
-pub loop-at-smaller : goal.loop-at-smaller
-loop-at-smaller c = c.record_ending_at-t.ensures.less

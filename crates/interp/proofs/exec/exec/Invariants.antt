@@ -1,13 +1,14 @@
 use Prim.Native.Nat.{suc, ◌-◌}
-use Rattle.machine.specs.Lent.{lent_to}
-use Rattle.interp.specs.Ties.{parts}
+use Rattle.interp.specs.Held.{parts_of, held, Kept}
 use Rattle.interp.specs.RunLaws.{Looping}
 use Rattle.interp.proofs.exec.exec.Given as goal
 
-abbrev pub invariant-loop-end : goal.invariant-loop-end
-invariant-loop-end l =
-    Looping (parts l.code l.consts l.reads l.writes l.keyed_reads l.keyed_writes l.store l.loader l.replies l.starts l.lent l.host) l.initial.run (lent_to l.initial.memory l.initial.stack l.initial.changes l.initial.fetched l.initial.readable l.initial.writable l.initial.paid l.initial.log) l.run l.file (lent_to l.memory l.stack l.changes l.fetched l.readable l.writable l.paid l.log)
+abbrev pub invariant-loop-fault : goal.invariant-loop-fault
+invariant-loop-fault l = record {
+  kept : Kept l.initial.work l.work;
+  rest : Looping (parts_of l.program) l.initial.run (held l.initial.work) l.run l.file (held l.work);
+}
 
-abbrev pub decreases-loop-end : goal.decreases-loop-end
-decreases-loop-end l =
+abbrev pub decreases-loop-fault : goal.decreases-loop-fault
+decreases-loop-fault l =
     suc (l.initial.run.meter.limit - l.initial.run.meter.used) - l.run.fetches

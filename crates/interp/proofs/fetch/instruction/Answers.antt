@@ -2,10 +2,10 @@
 use Rattle.interp.specs.Fetched.{instruction_in}
 use Rattle.interp.proofs.fetch.instruction.Goals as goal
 
-pub returns-in-Done : goal.returns-in-Done
+pub returns-in-Ok : goal.returns-in-Ok
 unfolding instruction_in
-returns-in-Done c = rw c.in-Done.is
+returns-in-Ok c = rw c.in-Ok.is
 
-pub returns-in-Refused : goal.returns-in-Refused
+pub returns-in-Err : goal.returns-in-Err
 unfolding instruction_in
-returns-in-Refused c = rw c.in-Refused.is
+returns-in-Err c = rw c.in-Err.is

@@ -8,8 +8,8 @@ returns-in_default c =
 
 pub returns-then-next-ge4294967296 : goal.returns-then-next-ge4294967296
 returns-then-next-ge4294967296 c =
-    onward_far _ _ _ _ (price_of_lem _ _ _ c.opcode.ensures c.price.ensures) _ c.pay.ensures _ c.in-Done.is c.if-next-ge4294967296.true
+    onward_far _ _ _ _ (price_of_lem _ _ _ c.opcode.ensures c.price.ensures) _ c.pay.ensures _ c.in-Some.is c.if-next-ge4294967296.true
 
 pub returns : goal.returns
 returns c =
-    onward_done _ _ _ _ (price_of_lem _ _ _ c.opcode.ensures c.price.ensures) _ c.pay.ensures _ c.in-Done.is c.if-next-ge4294967296.false
+    onward_done _ _ _ _ (price_of_lem _ _ _ c.opcode.ensures c.price.ensures) _ c.pay.ensures _ c.in-Some.is c.if-next-ge4294967296.false

@@ -1,20 +1,20 @@
 -- `finish` meets its contract. Assumes nothing.
+use Rattle.std.proofs.Common.{sym, ap, ◌∙◌}
+use Rattle.std.specs.Prelude.{List, ℕ}
+use Rattle.opening.specs.Opening.{Lent}
 use Rattle.keys.specs.Lent as tables
-use Rattle.interp.specs.Call.{lent_as}
-use Rattle.interp.specs.FinishLaws.{finish_faults, finish_halts}
+use Rattle.interp.specs.Call.{called, lent_as}
+use Rattle.interp.specs.Held.{held_with}
 use Rattle.interp.proofs.finish.finish.Goals as goal
 
-pub shape_of-memory-then-end-ne0 : goal.shape_of-memory-then-end-ne0
-shape_of-memory-then-end-ne0 c = c.wipe_work.auto.memory
+-- these changes and this log in the place of a work's
+abbrev with : Lent → (changes log : List ℕ) → Lent
+with b ch lg =
+    let k = b.run.keys in
+    lent_as b.run.memory b.run.stack (tables.key_bufs ch k.fetched k.may_read k.may_write k.paid) lg b.starts
 
-pub returns-then-end-ne0 : goal.returns-then-end-ne0
-returns-then-end-ne0 c =
-    let w = c.wipe_work.ensures in
-    finish_faults _ _ _ _ c.if-end-ne0.true c.refused.ensures
-    (λ i. lent_as (w.memory_is i) (w.stack_is i) (tables.key_bufs (c.wipe.ensures i) (w.fetched_is i) (w.readable_is i) (w.writable_is i) (w.paid_is i)) (c.wipe-then-end-ne0.ensures i) (w.starts_is i))
-
-pub returns : goal.returns
-returns c =
-    let w = c.wipe_work.ensures in
-    finish_halts _ _ _ _ c.if-end-ne0.false (λ k. (c.type_inv.changes k).fits) c.halted.ensures
-    (λ i. lent_as (w.memory_is i) (w.stack_is i) (tables.key_bufs c.args.changes.now (w.fetched_is i) (w.readable_is i) (w.writable_is i) (w.paid_is i)) c.args.log.now (w.starts_is i))
+pub returns-clause-finishes : goal.returns-clause-finishes
+returns-clause-finishes c =
+    let z = c.wipe_work.ensures.wiped in
+    let b = held_with c.args.work.now c.args.starts.now in
+    λ e s end t. ap (λ (y : Lent). called c.close.result (with y c.close.new.changes c.close.new.log)) z ∙ c.close.ensures b (ap (λ (y : Lent). y.run.keys.changes) (sym z)) (ap (λ (y : Lent). y.run.log) (sym z)) e s end t

@@ -13,14 +13,14 @@ use Rattle.isa.proofs.codec.decode.Goals as goal
 use Rattle.isa.proofs.codec.decode.Goals.{After-row-row}
 
 abbrev opcode : After-row-row → OpCode
-opcode c = c.in-Known.op
+opcode c = c.in-Some.op
 
 -- what the bytes after the opcode say is the answer
 says : (c : After-row-row) → let code = c.args.code.now in let at = c.args.place + 1 in
     operands_of (opcode c) (take (length code - at) (drop at code)) ≡ decode_at code c.args.place
 says c =
     let a = c.args in
-    rw (rest (a.place + 1) a.code.now) (an_opcode a.code.now a.place (omega arith) (opcode c) (sym c.from_byte.ensures ∙ c.in-Known.is))
+    rw (rest (a.place + 1) a.code.now) (an_opcode a.code.now a.place (omega arith) (opcode c) (sym c.from_byte.ensures ∙ c.in-Some.is))
 
 pub returns-in_default : goal.returns-in_default
 returns-in_default c =

@@ -1,25 +1,25 @@
 -- `encode` meets its contract, a law for each return. Assumes nothing.
+use Rattle.std.specs.Prelude.{None}
 use mathlib.Core.Path.{◌≡◌, sym, ◌∙◌}
 use native.Mathlib.Omega.{arith}
-use Rattle.isa.specs.declared.codec.FirstBad.TheVariants.{NoneBad}
 use Rattle.isa.specs.Forms.{form_of}
 use Rattle.isa.specs.Codec.{first_bad}
 use Rattle.isa.specs.TableLaws.{RowBounds, row_bounds}
-use Rattle.isa.specs.EncodeLaws.{regs_stand, encoded_bad, encoded_no_room, encoded_done}
+use Rattle.isa.specs.EncodeLaws.{regs_stand, encoded_bad, encoded_done}
 use Rattle.isa.proofs.codec.encode.Goals as goal
 use Rattle.isa.proofs.codec.encode.Goals.{After-row-row, In_default}
 
 -- no register of the instruction is 16 or more
-no_bad : (c : In_default) → first_bad (form_of c.args.i).regs ≡ NoneBad
+no_bad : (c : In_default) → first_bad (form_of c.args.i).regs ≡ None
 no_bad c = sym c.bad_register.ensures ∙ c.in_default.is
 
 row_small : (c : After-row-row) → RowBounds c.parts_of-p.result.0
 row_small c = row_bounds c.parts_of-p.result.0
 
-pub returns-in-Bad : goal.returns-in-Bad
-returns-in-Bad c =
+pub returns-in-Some : goal.returns-in-Some
+returns-in-Some c =
     let a = c.args in
-    let e = encoded_bad a.i a.out.now c.in-Bad.b (sym c.bad_register.ensures ∙ c.in-Bad.is) in
+    let e = encoded_bad a.i a.out.now c.in-Some.b (sym c.bad_register.ensures ∙ c.in-Some.is) in
     record { answer = e.answer; output = e.output }
 
 pub overflow_add-size : goal.overflow_add-size

@@ -1,40 +1,16 @@
 -- `six` meets its contract. Assumes nothing.
-use mathlib.Core.Path.{◌≡◌, sym, ◌∙◌}
-use mathlib.Core.Bool.{true}
-use native.Mathlib.Omega.{arith}
+use Rattle.std.proofs.Common.{sym, ◌∙◌}
 use Rattle.words.specs.Bytes.{num, num_from}
-use Rattle.isa.specs.Codec.{refusal_in}
-use Rattle.isa.specs.Shapes.{is_none}
-use Rattle.isa.specs.ShapeLaws.{stands_room, shape_refused, shape_done}
+use Rattle.isa.specs.ShapeLaws.{shape_err, shape_done}
 use Rattle.isa.proofs.codec.six.Goals as goal
-use Rattle.isa.proofs.codec.six.Goals.{Else-not-stands}
 
-stood : (c : Else-not-stands) → is_none (refusal_in 6 0 c.args.s.now) ≡ true
-stood c = sym c.stands.ensures ∙ c.if-not-stands.false
-
-pub returns-then-not-stands : goal.returns-then-not-stands
-returns-then-not-stands c =
-    c.refused.ensures ∙ shape_refused c.args.op c.args.s.now 6 0 c.requires (sym c.stands.ensures ∙ c.if-not-stands.true)
+pub returns-in_err-operands : goal.returns-in_err-operands
+returns-in_err-operands c =
+    let a = c.args in
+    shape_err a.op a.s.now 6 0 c.requires _ _ c.from_residual.ensures.1 (sym c.in_err-operands.was ∙ c.operands.ensures.answer)
 
 pub returns : goal.returns
 unfolding num num_from
 returns c =
-    shape_done c.args.op c.args.s.now 6 0 c.requires (stood (goal.at-returns c).Else-not-stands) _ (c.with_six.ensures c.requires)
-
-pub bounds-s-0 : goal.bounds-s-0
-bounds-s-0 c = omega (arith, stands_room 6 0 _ (stood (goal.at-bounds-s-0 c).Else-not-stands))
-
-pub bounds-s-1 : goal.bounds-s-1
-bounds-s-1 c = omega (arith, stands_room 6 0 _ (stood (goal.at-bounds-s-1 c).Else-not-stands))
-
-pub bounds-s-2 : goal.bounds-s-2
-bounds-s-2 c = omega (arith, stands_room 6 0 _ (stood (goal.at-bounds-s-2 c).Else-not-stands))
-
-pub bounds-s-3 : goal.bounds-s-3
-bounds-s-3 c = omega (arith, stands_room 6 0 _ (stood (goal.at-bounds-s-3 c).Else-not-stands))
-
-pub bounds-s-4 : goal.bounds-s-4
-bounds-s-4 c = omega (arith, stands_room 6 0 _ (stood (goal.at-bounds-s-4 c).Else-not-stands))
-
-pub bounds-s-5 : goal.bounds-s-5
-bounds-s-5 c = omega (arith, stands_room 6 0 _ (stood (goal.at-bounds-s-5 c).Else-not-stands))
+    let a = c.args in
+    shape_done a.op a.s.now 6 0 c.requires (sym c.in_ok-operands.was ∙ c.operands.ensures.answer) _ (c.with_six.ensures c.requires)

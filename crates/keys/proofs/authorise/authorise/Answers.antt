@@ -9,4 +9,4 @@ returns c =
     let a = c.args in
     λ l g base ch fe pd ok q.
     authorised_so l g a.c (key_bufs ch fe a.readable.now a.writable.now pd) ok base (num a.key.now) a.plan q
-    _ _ _ _ c.add_if.ensures c.add_if-2.ensures
+    _ _ _ _ c.add_if-reads.ensures c.add_if-writes.ensures

@@ -1,10 +1,7 @@
--- `keys::room::add_if` meets its contract: nothing is put in, or the key that has room. Assumes nothing.
-use Rattle.keys.specs.RoomLaws.{put_off, put_on}
+-- `keys::room::add_if` meets its contract: nothing is put in, or what has room. Assumes nothing.
+use Rattle.keys.specs.RoomLaws.{put_on}
 use Rattle.keys.proofs.room.add_if.Goals as goal
 
-pub returns : goal.returns
-returns c =
-    put_on _ _ _ c.requires.0 _ _ _ _ c.add-s.auto.t c.add-s.ensures c.if-not-when.false c.requires.2 _ c.counted.ensures
-
-pub returns-then-not-when : goal.returns-then-not-when
-returns-then-not-when c = put_off _ _ _ c.requires.0 _ _ c.if-not-when.true
+pub returns-then-when : goal.returns-then-when
+returns-then-when c =
+    put_on _ _ _ c.requires.0 _ _ _ _ c.add.auto.t c.add.ensures c.if-when.true c.requires.1 _ c.unwrap_or.ensures

@@ -10,4 +10,4 @@ returns c =
     λ rd wr kr kw mr ok.
     planned a.lent (given rd wr kr kw a.store.now a.loader.now) a.c
     (key_bufs a.changes.now a.fetched.now mr a.writable.now a.paid.now) ok (num a.key.now) a.v
-    _ _ _ _ c.look_up-l.ensures c.pays_fresh-fresh.ensures c.store_price-price.ensures (c.store_room-room.ensures a.v)
+    _ _ _ _ (rw c.loader_table-loader.ensures at c.look_up-look.ensures) c.pays_fresh-fresh.ensures c.store_price-price.ensures (c.store_room-room.ensures a.v)

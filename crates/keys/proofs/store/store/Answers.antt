@@ -4,9 +4,6 @@ use Rattle.keys.specs.Lent.{key_bufs}
 use Rattle.keys.specs.StoreLaws.{stored_so}
 use Rattle.keys.proofs.store.store.Goals as goal
 
-pub put_if-requires-2 : goal.put_if-requires-2
-put_if-requires-2 c = let (ready, key) = c.requires in (ready.fetched_held, key, ready.fetched_fit)
-
 pub returns : goal.returns
 returns c =
     let a = c.args in

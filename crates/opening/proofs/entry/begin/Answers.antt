@@ -1,11 +1,11 @@
 -- `begin` meets its contract, a law for each return. Assumes nothing.
+use Rattle.std.specs.Prelude.{Ok, Err}
 use mathlib.Core.Path.{◌≡◌, sym, ◌∙◌}
 use mathlib.Core.Bool.{Bool, true, false}
 use Rattle.words.specs.Choice.{pick}
-use Rattle.words.specs.Refusals.{refusal}
+use Rattle.state.specs.declared.fault.Fault.TheVariants.{Malformed}
 use Rattle.opening.specs.Parts.{OpensAt}
 use Rattle.opening.specs.OpenLaws.{many_slots, too_dear, at_offset}
-use Rattle.opening.specs.declared.open.OpenAnswer.TheVariants.{Done, Refused}
 use Rattle.opening.proofs.entry.begin.Goals as goal
 use Rattle.opening.proofs.entry.begin.Goals.{After-is_start}
 
@@ -20,7 +20,7 @@ returns-then-call-used c =
 decided : (c : After-is_start) (t : Bool) → c.is_start.result ≡ t →
     let a = c.args in
     OpensAt a.call a.l a.lent a.e a.code.now
-    (pick t (Done (record { layout = a.l; entry = a.e; lent = a.lent; used = c.dispatch-used.result })) (Refused (refusal 14 0)))
+    (pick t (Ok (record { layout = a.l; entry = a.e; lent = a.lent; used = c.dispatch-used.result })) (Err Malformed))
 decided c t e =
     at_offset _ _ _ _ _ (sym c.slots_within_limit.ensures ∙ c.if-not-slots_within_limit.false) _ c.dispatch-used.ensures c.if-call-used.false t (sym c.is_start.ensures ∙ e)
 

@@ -1,34 +1,44 @@
 -- `open` meets its contract: the container is read, the tables are checked, then the entry decides. Assumes nothing.
-use mathlib.Core.Path.{sym, ◌∙◌}
-use native.Mathlib.Omega.{arith}
+use Rattle.std.proofs.Common.{sym, ◌∙◌, arith}
 use Rattle.container.specs.ReadToldLaws.{ReadTold, read_told, refused_told, code_within}
-use Rattle.opening.specs.OpenLaws.{unreadable, bad_tables, entered}
+use Rattle.opening.specs.Opened.{numbered, Opens}
+use Rattle.opening.specs.OpenLaws.{unreadable, bad_tables, numbered_err, entered}
 use Rattle.opening.proofs.open.open.Goals as goal
-use Rattle.opening.proofs.open.open.Goals.{In-Done}
+use Rattle.opening.proofs.open.open.Goals.{In_ok-l, After-enter}
 
 -- the container that was read
-told : (c : In-Done) →
-    ReadTold c.args.container.now c.in-Done.l
-told c =
-    read_told _ _ (sym c.in-Done.is ∙ c.read-d.ensures)
+told : (c : In_ok-l) → ReadTold c.args.container.now c.in_ok-l.l
+told c = read_told _ _ (sym c.in_ok-l.was ∙ c.read.ensures)
 
-pub overflow_add-end : goal.overflow_add-end
-overflow_add-end c = omega (arith, code_within _ _ (told (goal.at-overflow_add-end c).In-Done))
+-- what the entry decides
+decided : (c : After-enter) → Opens c.args.call c.args.container.now c.args.store.now c.args.loader.now c.args.replies.now (numbered c.enter.result)
+decided c =
+    let a = c.args in
+    entered a.call _ a.store.now a.loader.now a.replies.now _ (told (goal.at-After-enter c).In_ok-l) _ c.check.ensures _ c.in_ok-lent.was
+    (λ k. (c.type_inv.container k).fits) c.enter.result c.enter.ensures
 
-pub slice_bounds-enter-end : goal.slice_bounds-enter-end
-slice_bounds-enter-end c = omega (arith, code_within _ _ (told (goal.at-slice_bounds-enter-end c).In-Done))
+pub returns-in_err-l : goal.returns-in_err-l
+returns-in_err-l c =
+    let a = c.args in
+    unreadable a.call _ a.store.now a.loader.now a.replies.now _ (refused_told _ _ (sym c.in_err-l.was ∙ c.read.ensures)) _ c.from_residual.ensures.1
 
-pub returns-in-Refused : goal.returns-in-Refused
-returns-in-Refused c =
-    unreadable c.args.call _ c.args.store.now c.args.loader.now c.args.replies.now _
-    (refused_told _ _ (sym c.in-Refused.is ∙ c.read-d.ensures)) _ c.refusal.ensures
+pub returns-in_err-lent : goal.returns-in_err-lent
+returns-in_err-lent c =
+    let a = c.args in
+    bad_tables a.call _ a.store.now a.loader.now a.replies.now _ (told (goal.at-returns-in_err-lent c).In_ok-l) _ c.check.ensures _ c.in_err-lent.was _
+    c.from_residual-in_err-lent.ensures.1
 
-pub returns-in-Bad : goal.returns-in-Bad
-returns-in-Bad c =
-    bad_tables c.args.call _ c.args.store.now c.args.loader.now c.args.replies.now _ (told (goal.at-returns-in-Bad c).In-Done)
-    _ c.check-t.ensures _ c.in-Bad.is
+pub overflow_add-code : goal.overflow_add-code
+overflow_add-code c = omega (arith, code_within _ _ (told (goal.at-overflow_add-code c).In_ok-l))
 
-pub returns-in-Good : goal.returns-in-Good
-returns-in-Good c =
-    entered c.args.call _ c.args.store.now c.args.loader.now c.args.replies.now _ (told (goal.at-returns-in-Good c).In-Done)
-    _ c.check-t.ensures _ c.in-Good.is (λ k. (c.type_inv.container k).fits) c.enter.result c.enter.ensures
+pub slice_bounds-code-end : goal.slice_bounds-code-end
+slice_bounds-code-end c = omega (arith, code_within _ _ (told (goal.at-slice_bounds-code-end c).In_ok-l))
+
+pub returns-in_err-enter : goal.returns-in_err-enter
+returns-in_err-enter c =
+    let a = c.args in
+    numbered_err a.call _ a.store.now a.loader.now a.replies.now _ _ c.in_err-enter.was (decided (goal.at-returns-in_err-enter c).After-enter) _
+    c.from_residual-in_err-enter.ensures.1
+
+pub returns : goal.returns
+returns c = rw c.in_ok-enter.was at (decided (goal.at-returns c).After-enter)

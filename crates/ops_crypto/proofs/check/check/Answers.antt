@@ -36,9 +36,9 @@ returns-in_default c =
     (pays (goal.at-returns-in_default c).After-pay e stack log d ks host).off _ _ c.in_default.is c.stop.ensures
 
 pub ask-requires : goal.ask-requires
-ask-requires c = rw (paid_is c.args.run _ _ _ c.pay.ensures c.in-Done.is) c.requires
+ask-requires c = rw (paid_is c.args.run _ _ _ c.pay.ensures c.in-Some.is) c.requires
 
 pub returns : goal.returns
 returns c =
     λ e stack log d ks host.
-    (pays (goal.at-returns c).After-pay e stack log d ks host).on _ _ _ c.in-Done.is (c.ask.ensures.turn e stack log d ks (registers (goal.at-returns c).Start))
+    (pays (goal.at-returns c).After-pay e stack log d ks host).on _ _ _ c.in-Some.is (c.ask.ensures.turn e stack log d ks (registers (goal.at-returns c).Start))

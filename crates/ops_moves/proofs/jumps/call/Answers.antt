@@ -4,12 +4,12 @@ use Rattle.machine.specs.JumpRules.{jumping}
 use Rattle.machine.specs.Sound.{machine_of}
 use Rattle.ops_moves.proofs.jumps.call.Goals as goal
 
-pub returns-in-Depth : goal.returns-in-Depth
+pub returns : goal.returns
 unfolding machine_of
-returns-in-Depth c =
-    λ x f mem lm h. pushes_on x _ f mem _ _ _ _ c.push-p.ensures.answer c.push-p.ensures.contents (jumping x.env _) _ _ c.in-Depth.is (c.jump.ensures x f mem _ lm h)
+returns c =
+    λ x f mem lm h. pushes_on x _ f mem _ _ _ _ c.push.ensures.answer c.push.ensures.contents (jumping x.env _) _ _ c.in-Some.is (c.jump.ensures x f mem _ lm h)
 
-pub returns-in-StackOverflow : goal.returns-in-StackOverflow
+pub returns-in_default : goal.returns-in_default
 unfolding machine_of
-returns-in-StackOverflow c =
-    rw c.stop.ensures (λ x f mem lm h. pushes_not x _ f mem _ _ _ _ c.push-p.ensures.answer c.push-p.ensures.contents (jumping x.env _) c.in-StackOverflow.is)
+returns-in_default c =
+    rw c.stop.ensures (λ x f mem lm h. pushes_not x _ f mem _ _ _ _ c.push.ensures.answer c.push.ensures.contents (jumping x.env _) c.in_default.is)

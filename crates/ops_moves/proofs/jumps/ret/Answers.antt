@@ -3,17 +3,17 @@ use Rattle.machine.specs.JumpRules.{jumping}
 use Rattle.ops_moves.specs.MoveLaws.{pop_word, pops_on, pops_not}
 use Rattle.ops_moves.proofs.jumps.ret.Goals as goal
 
-pub pop-p-requires : goal.pop-p-requires
-pop-p-requires c = c.requires
+pub pop-requires : goal.pop-requires
+pop-requires c = c.requires
 
-pub overflow_sub-next : goal.overflow_sub-next
-overflow_sub-next c =
-    pop_word c.args.stack.now c.args.run.depth _ _ c.pop-p.ensures c.in-Word.is
+pub overflow_sub-depth : goal.overflow_sub-depth
+overflow_sub-depth c =
+    pop_word c.args.stack.now c.args.run.depth _ _ c.pop.ensures c.in-Some.is
 
-pub returns-in-Word : goal.returns-in-Word
-returns-in-Word c =
-    λ x f mem lm h. pops_on x _ f mem _ _ c.pop-p.ensures (jumping x.env) _ _ c.in-Word.is (c.jump.ensures x f mem _ lm h)
+pub returns : goal.returns
+returns c =
+    λ x f mem lm h. pops_on x _ f mem _ _ c.pop.ensures (jumping x.env) _ _ c.in-Some.is (c.jump.ensures x f mem _ lm h)
 
-pub returns-in-StackUnderflow : goal.returns-in-StackUnderflow
-returns-in-StackUnderflow c =
-    rw c.stop.ensures (λ x f mem lm h. pops_not x _ f mem _ _ c.pop-p.ensures (jumping x.env) c.in-StackUnderflow.is)
+pub returns-in_default : goal.returns-in_default
+returns-in_default c =
+    rw c.stop.ensures (λ x f mem lm h. pops_not x _ f mem _ _ c.pop.ensures (jumping x.env) c.in_default.is)

@@ -26,20 +26,21 @@ pub returns-then-not-load_room : goal.returns-then-not-load_room
 unfolding look
 returns-then-not-load_room c =
     let a = c.args in
+    let seen = rw c.loader_table-loader.ensures at c.look_up-seen.ensures in
     λ e s kr kw mw pd memory stack log d f ek sixteen so.
     load_full e s d f a.lent (given_at (goal.at-returns-then-not-load_room c).Start kr kw) a.run (lent_at (goal.at-returns-then-not-load_room c).Start mw pd memory stack log) a.to (num a.key.now) _ c.may_load.ensures c.if-not-may_load.false
-    _ (c.load_room.ensures a.lent (given_at (goal.at-returns-then-not-load_room c).Start kr kw) a.changes.now a.readable.now mw pd so.tables c.look_up-seen.ensures)
+    _ (c.load_room.ensures a.lent (given_at (goal.at-returns-then-not-load_room c).Start kr kw) a.changes.now a.readable.now mw pd so.tables seen)
     _ _ c.stop-then-not-load_room.ensures c.if-not-load_room.true ek sixteen so
 
-pub load-after-requires : goal.load-after-requires
+pub load-counts-requires : goal.load-counts-requires
 unfolding look
-load-after-requires c =
+load-counts-requires c =
     let a = c.args in
+    let seen = rw c.loader_table-loader.ensures at c.look_up-seen.ensures in
     let rest = c.requires.2 in (
       rest.2.fetched.table,
-      c.requires.3,
-      load_ready a.lent (given_at (goal.at-load-after-requires c).Start [] []) a.run.counts (key_bufs a.changes.now a.fetched.now a.readable.now rest.0 rest.1) rest.2 (num a.key.now) _ c.look_up-seen.ensures
-          _ (c.load_room.ensures a.lent (given_at (goal.at-load-after-requires c).Start [] []) a.changes.now a.readable.now rest.0 rest.1 rest.2 c.look_up-seen.ensures)
+      load_ready a.lent (given_at (goal.at-load-counts-requires c).Start [] []) a.run.counts (key_bufs a.changes.now a.fetched.now a.readable.now rest.0 rest.1) rest.2 (num a.key.now) _ seen
+          _ (c.load_room.ensures a.lent (given_at (goal.at-load-counts-requires c).Start [] []) a.changes.now a.readable.now rest.0 rest.1 rest.2 seen)
           c.if-not-load_room.false,
     )
 
@@ -47,8 +48,9 @@ pub returns : goal.returns
 unfolding look
 returns c =
     let a = c.args in
+    let seen = rw c.loader_table-loader.ensures at c.look_up-seen.ensures in
     λ e s kr kw mw pd memory stack log d f ek sixteen so.
     load_done e s d f a.lent (given_at (goal.at-returns c).Start kr kw) a.run (lent_at (goal.at-returns c).Start mw pd memory stack log) a.to (num a.key.now) _ c.may_load.ensures c.if-not-may_load.false
-    _ (c.load_room.ensures a.lent (given_at (goal.at-returns c).Start kr kw) a.changes.now a.readable.now mw pd so.tables c.look_up-seen.ensures)
-    _ _ _ c.look_up-seen.ensures c.load-after.auto.fetched (c.load-after.ensures a.lent (given_at (goal.at-returns c).Start kr kw) a.changes.now a.readable.now mw pd so.tables c.look_up-seen.ensures)
+    _ (c.load_room.ensures a.lent (given_at (goal.at-returns c).Start kr kw) a.changes.now a.readable.now mw pd so.tables seen)
+    _ _ _ seen c.load-counts.auto.fetched (c.load-counts.ensures a.lent (given_at (goal.at-returns c).Start kr kw) a.changes.now a.readable.now mw pd so.tables seen)
     _ c.set.ensures c.if-not-load_room.false ek sixteen so

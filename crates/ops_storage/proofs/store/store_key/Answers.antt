@@ -39,26 +39,24 @@ returns-then-not-plan c =
     λ e x reads kr kw mr memory stack log d f ek sixteen so.
     store_full e x d f a.lent (given_at (goal.at-returns-then-not-plan c).Start reads kr kw) a.run (lent_at (goal.at-returns-then-not-plan c).Start mr memory stack log) (num a.key.now) a.v
     _ c.may_store.ensures c.if-not-may_store.false
-    _ (c.plan_store-plan.ensures reads a.writes.now kr kw mr so.tables) _ c.pay.ensures _ c.in-Done.is
+    _ (c.plan_store-plan.ensures reads a.writes.now kr kw mr so.tables) _ c.pay.ensures _ c.in-Some.is
     _ _ c.stop-then-not-plan.ensures (not-true _ c.if-not-plan.true) ek sixteen so
 
-pub store-after-requires : goal.store-after-requires
-store-after-requires c =
+pub store-counts-requires : goal.store-counts-requires
+store-counts-requires c =
     let a = c.args in
-    let rest = c.requires.2 in (
-      store_ready a.lent (given_at (goal.at-store-after-requires c).Start [] [] []) a.run.counts (key_bufs a.changes.now a.fetched.now rest.0 a.writable.now a.paid.now) rest.1 (num a.key.now) a.v
-          _ (c.plan_store-plan.ensures [] a.writes.now [] [] rest.0 rest.1) (not-false _ c.if-not-plan.false),
-      c.requires.3,
-    )
+    let rest = c.requires.2 in
+    store_ready a.lent (given_at (goal.at-store-counts-requires c).Start [] [] []) a.run.counts (key_bufs a.changes.now a.fetched.now rest.0 a.writable.now a.paid.now) rest.1 (num a.key.now) a.v
+    _ (c.plan_store-plan.ensures [] a.writes.now [] [] rest.0 rest.1) (not-false _ c.if-not-plan.false)
 
 pub returns : goal.returns
 returns c =
     let a = c.args in
     λ e x reads kr kw mr memory stack log d f ek sixteen so.
     let plan = c.plan_store-plan.ensures reads a.writes.now kr kw mr so.tables in
-    let kept = c.store-after.auto in
+    let kept = c.store-counts.auto in
     store_done e x d f a.lent (given_at (goal.at-returns c).Start reads kr kw) a.run (lent_at (goal.at-returns c).Start mr memory stack log) (num a.key.now) a.v
     _ c.may_store.ensures c.if-not-may_store.false
-    _ plan _ c.pay.ensures _ c.in-Done.is
-    _ _ _ _ kept.changes kept.fetched kept.paid (c.store-after.ensures a.lent (given_at (goal.at-returns c).Start reads kr kw) mr a.writable.now so.tables plan)
+    _ plan _ c.pay.ensures _ c.in-Some.is
+    _ _ _ _ kept.changes kept.fetched kept.paid (c.store-counts.ensures a.lent (given_at (goal.at-returns c).Start reads kr kw) mr a.writable.now so.tables plan)
     _ c.go_on.ensures (not-false _ c.if-not-plan.false) ek sixteen so

@@ -1,61 +1,84 @@
--- `replies::reply::good` meets its contract: after each test the tests that are left decide. Assumes nothing.
-use mathlib.Core.Path.{◌≡◌, sym, ap, ◌∙◌}
-use mathlib.Core.Bool.{Bool}
-use mathlib.Core.List.{List}
-use Prim.Native.Nat.{ℕ}
-use native.Mathlib.Omega.{arith}
-use borrow.Author.Tests.{le-leb, lt-leb, eq-eqb, ne_eqb}
+-- `replies::reply::good` meets its contract: at each `&&` the tests so far. Assumes nothing.
+use Rattle.std.specs.Prelude.{◌≡◌, Bool, ◌+◌, ◌≤◌, drop, leb}
+use Rattle.std.proofs.Common.{sym, ap, ◌∙◌, arith, le-leb, eq-eqb, ne_eqb}
+use Rattle.std.proofs.lemmas.Bool.{lt-leb}
+use Rattle.words.specs.BytesLaws.{rest}
 use Rattle.words.specs.Choice.{both}
-use Rattle.replies.specs.Reply.{good_reply}
-use Rattle.replies.specs.Walks.{after_outcome, after_register, after_region, after_zeros}
-use Rattle.replies.specs.ReplyLaws.{good_walked, region_length}
-use Rattle.replies.specs.declared.reply.Reply.{Reply}
+use Rattle.words.specs.ChoiceLaws.{both_right}
+use Rattle.replies.specs.Reply.{zeros, good_register, good_region, good_reply}
+use Rattle.replies.specs.Walks.{after_zeros}
+use Rattle.replies.specs.ReplyLaws.{good_told, region_length}
 use Rattle.replies.proofs.reply.good.Goals as goal
-use Rattle.replies.proofs.reply.good.Goals.{After-parse-r, Else-not-region_fits, Else-not-register_fits, Else-not-zero_from, Else-r-gt14}
+use Rattle.replies.proofs.reply.good.Goals.{
+  Joined-r-le14,
+  Joined-register_fits,
+  Joined-region_fits,
+  Then-region_fits,
+  then-r-le14,
+  else-r-le14,
+  then-register_fits,
+  else-register_fits,
+  then-region_fits,
+  else-region_fits,
+}
 
-abbrev row : After-parse-r → List ℕ
-row c = c.args.row.now
+first : (c : Joined-r-le14) → let r = c.parse-r.result in c.if-r-le14.value ≡ both (leb r.outcome 14) (good_register r.register r.value)
+first c = elim c.if-r-le14.branch [
+  | then-r-le14 w ↦ rw (le-leb c.parse-r.result.outcome 14 w.if-r-le14.true) (w.value-is ∙ w.register_fits.ensures)
+  | else-r-le14 w ↦ let e = lt-leb c.parse-r.result.outcome 14 w.if-r-le14.false in rw e (w.value-is ∙ e)
+]
 
-abbrev reply : After-parse-r → Reply
-reply c = c.parse-r.result
+second : (c : Joined-register_fits) → let r = c.parse-r.result in c.if-register_fits.value ≡ both c.if-r-le14.value (good_region r.length r.offset)
+second c =
+    let more = λ (b : Bool). both b (good_region c.parse-r.result.length c.parse-r.result.offset) in
+    elim c.if-register_fits.branch [
+      | then-register_fits w ↦ w.value-is ∙ w.region_fits.ensures ∙ ap more (sym w.if-register_fits.true)
+      | else-register_fits w ↦ w.value-is ∙ w.if-register_fits.false ∙ ap more (sym w.if-register_fits.false)
+    ]
 
-past_outcome : (c : Else-r-gt14) → good_reply (row (goal.at-Else-r-gt14 c).After-parse-r) ≡ after_outcome (row (goal.at-Else-r-gt14 c).After-parse-r) (reply (goal.at-Else-r-gt14 c).After-parse-r)
-past_outcome c =
-    good_walked (row (goal.at-Else-r-gt14 c).After-parse-r) (reply (goal.at-Else-r-gt14 c).After-parse-r) c.requires c.parse-r.ensures ∙ rw (le-leb _ 14 c.if-r-gt14.false)
+third : (c : Joined-region_fits) → c.if-region_fits.value ≡ both c.if-register_fits.value (zeros (drop (c.parse-r.result.length + 15) c.args.row.now))
+third c =
+    let more = λ (b : Bool). both b (zeros (drop (c.parse-r.result.length + 15) c.args.row.now)) in
+    elim c.if-region_fits.branch [
+      | then-region_fits w ↦ w.value-is ∙ w.all_zero.ensures ∙ ap zeros (rest _ c.args.row.now) ∙ ap more (sym w.if-region_fits.true)
+      | else-region_fits w ↦ w.value-is ∙ w.if-region_fits.false ∙ ap more (sym w.if-region_fits.false)
+    ]
 
-past_register : (c : Else-not-register_fits) → good_reply (row (goal.at-Else-not-register_fits c).After-parse-r) ≡ after_register (row (goal.at-Else-not-register_fits c).After-parse-r) (reply (goal.at-Else-not-register_fits c).After-parse-r)
-past_register c = past_outcome (goal.at-Else-not-register_fits c).Else-r-gt14 ∙ rw (sym c.register_fits.ensures ∙ c.if-not-register_fits.false)
+told : (c : Joined-region_fits) → good_reply c.args.row.now ≡ both c.if-region_fits.value (after_zeros c.args.row.now c.parse-r.result)
+told c =
+    let r = c.parse-r.result in
+    rw (third c, second (goal.at-Joined-region_fits c).Joined-register_fits, first (goal.at-Joined-region_fits c).Joined-r-le14)
+    (good_told c.args.row.now r c.requires c.parse-r.ensures)
 
-past_region : (c : Else-not-region_fits) → good_reply (row (goal.at-Else-not-region_fits c).After-parse-r) ≡ after_region (row (goal.at-Else-not-region_fits c).After-parse-r) (reply (goal.at-Else-not-region_fits c).After-parse-r)
-past_region c = past_register (goal.at-Else-not-region_fits c).Else-not-register_fits ∙ rw (sym c.region_fits.ensures ∙ c.if-not-region_fits.false)
-
-past_zeros : (c : Else-not-zero_from) → good_reply (row (goal.at-Else-not-zero_from c).After-parse-r) ≡ after_zeros (row (goal.at-Else-not-zero_from c).After-parse-r) (reply (goal.at-Else-not-zero_from c).After-parse-r)
-past_zeros c =
-    past_region (goal.at-Else-not-zero_from c).Else-not-region_fits
-    ∙ ap (λ (z : Bool). both z (after_zeros (row (goal.at-Else-not-zero_from c).After-parse-r) (reply (goal.at-Else-not-zero_from c).After-parse-r))) (sym c.zero_from.ensures ∙ c.if-not-zero_from.false)
-
-pub returns-then-r-gt14 : goal.returns-then-r-gt14
-returns-then-r-gt14 c =
-    sym (good_walked (row (goal.at-returns-then-r-gt14 c).After-parse-r) (reply (goal.at-returns-then-r-gt14 c).After-parse-r) c.requires c.parse-r.ensures ∙ rw (lt-leb _ 14 c.if-r-gt14.true))
-
-pub returns-then-not-register_fits : goal.returns-then-not-register_fits
-returns-then-not-register_fits c = sym (past_outcome (goal.at-returns-then-not-register_fits c).Else-r-gt14 ∙ rw (sym c.register_fits.ensures ∙ c.if-not-register_fits.true))
-
-pub returns-then-not-region_fits : goal.returns-then-not-region_fits
-returns-then-not-region_fits c = sym (past_register (goal.at-returns-then-not-region_fits c).Else-not-register_fits ∙ rw (sym c.region_fits.ensures ∙ c.if-not-region_fits.true))
+-- a region that fits is short
+short : (c : Then-region_fits) → c.parse-r.result.length ≤ 32
+short c =
+    region_length _ c.parse-r.result.offset
+    (both_right c.if-r-le14.value _ (sym (second (goal.at-Then-region_fits c).Joined-register_fits) ∙ c.if-region_fits.true))
 
 pub overflow_add-r : goal.overflow_add-r
-overflow_add-r c = omega (arith, region_length _ _ (sym c.region_fits.ensures ∙ c.if-not-region_fits.false))
+overflow_add-r c = omega (arith, short (goal.at-overflow_add-r c).Then-region_fits)
 
-pub returns-then-not-zero_from : goal.returns-then-not-zero_from
-returns-then-not-zero_from c = sym (past_region (goal.at-returns-then-not-zero_from c).Else-not-region_fits ∙ rw (sym c.zero_from.ensures ∙ c.if-not-zero_from.true))
+pub slice_bounds-all_zero-count : goal.slice_bounds-all_zero-count
+slice_bounds-all_zero-count c = omega (arith, short (goal.at-slice_bounds-all_zero-count c).Then-region_fits)
+
+pub slice_bounds-all_zero-start : goal.slice_bounds-all_zero-start
+slice_bounds-all_zero-start c = omega (arith, short (goal.at-slice_bounds-all_zero-start c).Then-region_fits)
 
 pub returns-then-r-eq0 : goal.returns-then-r-eq0
-returns-then-r-eq0 c = sym (past_zeros (goal.at-returns-then-r-eq0 c).Else-not-zero_from ∙ rw (eq-eqb _ 0 c.if-r-eq0.true))
+returns-then-r-eq0 c =
+    let e = eq-eqb _ 0 c.if-r-eq0.true in
+    e ∙ sym (told (goal.at-returns-then-r-eq0 c).Joined-region_fits ∙ rw (c.if-all_zero.true, e))
 
 pub returns-then-r : goal.returns-then-r
-returns-then-r c = sym (past_zeros (goal.at-returns-then-r c).Else-not-zero_from ∙ rw (ne_eqb _ 0 c.if-r-eq0.false, ne_eqb _ 255 c.if-r.true))
+returns-then-r c =
+    c.all_zero-then-r.ensures ∙ ap zeros (rest 2 c.args.row.now)
+    ∙ sym (told (goal.at-returns-then-r c).Joined-region_fits ∙ rw (c.if-all_zero.true, ne_eqb _ 0 c.if-r-eq0.false, eq-eqb _ 255 c.if-r.true))
 
-pub returns : goal.returns
-returns c =
-    sym (past_zeros (goal.at-returns c).Else-not-zero_from ∙ rw (ne_eqb _ 0 c.if-r-eq0.false, eq-eqb _ 255 c.if-r.false) (sym c.zero_from-2.ensures))
+pub returns-else-r : goal.returns-else-r
+returns-else-r c =
+    let e = ne_eqb _ 255 c.if-r.false in
+    e ∙ sym (told (goal.at-returns-else-r c).Joined-region_fits ∙ rw (c.if-all_zero.true, ne_eqb _ 0 c.if-r-eq0.false, e))
+
+pub returns-else-all_zero : goal.returns-else-all_zero
+returns-else-all_zero c = c.if-all_zero.false ∙ sym (told (goal.at-returns-else-all_zero c).Joined-region_fits ∙ rw c.if-all_zero.false)

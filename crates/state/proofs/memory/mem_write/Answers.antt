@@ -5,12 +5,12 @@ use Rattle.state.proofs.memory.mem_write.Goals as goal
 pub copy_in-requires : goal.copy_in-requires
 copy_in-requires c = search part_within
 
-pub returns-in-Part : goal.returns-in-Part
-returns-in-Part c = let whole =
-    write_inside _ _ _ _ _ _ _ c.mem_region-region.ensures c.in-Part.is c.copy_in.ensures
+pub returns : goal.returns
+returns c = let whole =
+    write_inside _ _ _ _ _ _ _ c.mem_region.ensures c.in-Some.is c.copy_in.ensures
     in record { answer = whole.0; contents = whole.1 }
 
-pub returns-in-Outside : goal.returns-in-Outside
-returns-in-Outside c = let whole =
-    write_outside _ _ _ _ c.mem_region-region.ensures c.in-Outside.is
+pub returns-in_default : goal.returns-in_default
+returns-in_default c = let whole =
+    write_outside _ _ _ _ c.mem_region.ensures c.in_default.is
     in record { answer = whole.0; contents = whole.1 }

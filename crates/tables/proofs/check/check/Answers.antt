@@ -1,34 +1,24 @@
 -- `tables::check::check` meets its contract. Assumes nothing.
-use mathlib.Core.Path.{sym, ◌∙◌}
-use mathlib.Core.Bool.{Bool, true, false}
-use Prim.Native.Nat.{ℕ}
-use native.Mathlib.Omega.{arith}
-use native.Mathlib.Nat.{div-add-mod'}
-use lib.ListN.{length}
+use Rattle.std.specs.Prelude.{Some, None, Bool, true, false, ℕ}
+use Rattle.words.specs.WholeLaws.{whole_rows, whole_part}
 use Rattle.tables.specs.Rows.{rows}
 use Rattle.tables.specs.Checked.{risingb, checked_of}
-use Rattle.words.specs.WholeLaws.{whole_rows, whole_part}
-use Rattle.tables.specs.declared.check.Checked.TheVariants.{Whole, Bad}
 use Rattle.tables.proofs.check.check.Goals as goal
-use Rattle.tables.proofs.check.check.Goals.{Start}
+use Rattle.tables.proofs.check.check.Goals.{Start, else-t-w-eq0-via-then-t-w-eq0+else-rising, else-t-w-eq0-via-else-t-w-eq0}
 
 -- the test of the first n rows
 abbrev test : Start → ℕ → Bool
 test s n = risingb 0 (rows s.args.w n s.args.t.now)
 
-pub rising-requires : goal.rising-requires
-rising-requires c = (c.requires, omega (arith, div-add-mod' (length c.args.t.now) c.args.w))
-
 pub returns-then-rising : goal.returns-then-rising
 unfolding checked_of
 returns-then-rising c =
-    whole_rows (test (goal.at-returns-then-rising c).Start) Whole Bad _ _ c.if-t-w-eq0.true true (sym c.if-rising.true ∙ c.rising.ensures)
+    whole_rows (test (goal.at-returns-then-rising c).Start) Some None _ _ c.if-t-w-eq0.true true c.if-rising.ensures
 
-pub returns-then-t-w-eq0 : goal.returns-then-t-w-eq0
+pub returns-else-t-w-eq0 : goal.returns-else-t-w-eq0
 unfolding checked_of
-returns-then-t-w-eq0 c =
-    whole_rows (test (goal.at-returns-then-t-w-eq0 c).Start) Whole Bad _ _ c.if-t-w-eq0.true false (sym c.if-rising.false ∙ c.rising.ensures)
-
-pub returns : goal.returns
-unfolding checked_of
-returns c = whole_part (test (goal.at-returns c).Start) Whole Bad _ _ c.if-t-w-eq0.false
+returns-else-t-w-eq0 c =
+    elim c.else-t-w-eq0.branch [
+      | else-t-w-eq0-via-then-t-w-eq0+else-rising w ↦ whole_rows (test (goal.at-returns-else-t-w-eq0 c).Start) Some None _ _ w.if-t-w-eq0.true false w.if-rising.ensures
+      | else-t-w-eq0-via-else-t-w-eq0 w ↦ whole_part (test (goal.at-returns-else-t-w-eq0 c).Start) Some None _ _ w.if-t-w-eq0.false
+    ]

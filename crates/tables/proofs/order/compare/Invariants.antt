@@ -1,9 +1,7 @@
-use Prim.Native.Nat.{◌*◌, ◌≤◌, ◌-◌}
+use Prim.Native.Nat.{◌*◌}
 use Rattle.tables.specs.Walks.{Agree}
 use Rattle.tables.proofs.order.compare.Given as goal
 
+-- the strings agree in their first i words
 abbrev pub invariant-loop-i : goal.invariant-loop-i
-invariant-loop-i l = (l.i ≤ l.n) × Agree l.a l.b (l.i * 8)
-
-abbrev pub decreases-loop-i : goal.decreases-loop-i
-decreases-loop-i l = l.n - l.i
+invariant-loop-i l = Agree l.a l.b (l.i * 8)

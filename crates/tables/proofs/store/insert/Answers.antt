@@ -1,90 +1,70 @@
 -- `tables::store::insert` meets its contract: found, the row is pasted over; missing, the rows behind move up first, if there is room. Assumes nothing.
-use mathlib.Core.Path.{◌≡◌, refl, sym, ◌∙◌}
-use mathlib.Core.List.{List}
-use Prim.Native.Nat.{ℕ, ◌+◌, ◌*◌, ◌≤◌}
-use native.Mathlib.Omega.{arith}
-use native.Mathlib.Nat.{mul-le-mul_right, mul-le-mul_left}
-use lib.ListN.{length}
-use lib.Seq.{length-take-le}
+use Rattle.std.specs.Prelude.{◌≡◌, List, ◌+◌, ◌*◌, ◌≤◌, length, Ok, Err}
+use Rattle.std.proofs.Common.{sym, arith, mul-le-mul_right}
 use Rattle.tables.specs.Rows.{Row, rows, row_in, find}
 use Rattle.tables.specs.LayoutLaws.{rows_length, row_ends}
 use Rattle.tables.specs.SortedLaws.{insert_at, insert_missing}
 use Rattle.tables.specs.StoreLaws.{put_at, put_none, put_new}
-use Rattle.tables.specs.declared.rows.Found.TheVariants.{At, Missing}
+use Rattle.tables.proofs.store.insert.Given.{Over}
 use Rattle.tables.proofs.store.insert.Goals as goal
-use Rattle.tables.proofs.store.insert.Goals.{In-At, In-Missing, Start}
+use Rattle.tables.proofs.store.insert.Goals.{In-Ok, In-Err, Start}
 
-abbrev place : In-At → ℕ
-place c = c.in-At.i
+-- the rows that were there, and the new one
+abbrev table : (g : Over) → Start g → List Row
+table g s = rows g.row.W s.args.n s.args.t.now
 
-abbrev gap : In-Missing → ℕ
-gap c = c.in-Missing.i
+abbrev new : (g : Over) → Start g → Row
+new g s = row_in g.row.W s.args.row.now
 
--- the width and the rows that were there
-abbrev width : Start → ℕ
-width s = length s.args.row.now
-
-abbrev table : Start → List Row
-table s = rows (width s) s.args.n s.args.t.now
-
-count : (s : Start) → length (table s) ≡ s.args.n
-count s = rows_length (width s) s.args.n s.args.t.now
-
-found : (c : In-At) → find (row_in (width (goal.at-In-At c).Start) c.args.row.now).key (table (goal.at-In-At c).Start) ≡ At (place c)
+found : (g : Over) (c : In-Ok g) → find (new g (goal.at-In-Ok g c).Start).key (table g (goal.at-In-Ok g c).Start) ≡ Ok c.in-Ok.i
 unfolding row_in
-found c = sym c.find-f.ensures ∙ c.in-At.is
+found g c = sym (rw c.key_of.ensures at c.in-Ok.ensures)
 
-missing : (c : In-Missing) → find (row_in (width (goal.at-In-Missing c).Start) c.args.row.now).key (table (goal.at-In-Missing c).Start) ≡ Missing (gap c)
+missing : (g : Over) (c : In-Err g) → find (new g (goal.at-In-Err g c).Start).key (table g (goal.at-In-Err g c).Start) ≡ Err c.in-Err.i
 unfolding row_in
-missing c = sym c.find-f.ensures ∙ c.in-Missing.is
+missing g c = sym (rw c.key_of.ensures at c.in-Err.ensures)
 
-ends : (c : In-At) → place c * width (goal.at-In-At c).Start + width (goal.at-In-At c).Start ≤ length c.args.t.now
-ends c =
-    let x = row_in (width (goal.at-In-At c).Start) c.args.row.now in
-    let h = (insert_at x (table (goal.at-In-At c).Start) (place c) x (found c)).0 in
-    omega (arith, row_ends (width (goal.at-In-At c).Start) c.args.n (place c) (omega (arith, h, count (goal.at-In-At c).Start)), c.requires.fits)
+ends : (g : Over) (c : In-Ok g) → c.in-Ok.i * g.row.W + g.row.W ≤ length c.args.t.now
+ends g c =
+    let s = (goal.at-In-Ok g c).Start in
+    let h = (insert_at (new g s) (table g s) c.in-Ok.i (new g s) (found g c)).0 in
+    omega (arith, row_ends g.row.W c.args.n c.in-Ok.i (omega (arith, h, rows_length g.row.W c.args.n c.args.t.now)), c.requires.fits)
 
-begins : (c : In-Missing) → gap c * width (goal.at-In-Missing c).Start ≤ c.args.n * width (goal.at-In-Missing c).Start
-begins c =
-    let h = (insert_missing (row_in (width (goal.at-In-Missing c).Start) c.args.row.now) (table (goal.at-In-Missing c).Start) (gap c) (missing c)).0 in
-    mul-le-mul_right (width (goal.at-In-Missing c).Start) (omega (arith, h, count (goal.at-In-Missing c).Start))
+begins : (g : Over) (c : In-Err g) → c.in-Err.i * g.row.W ≤ c.args.n * g.row.W
+begins g c =
+    let s = (goal.at-In-Err g c).Start in
+    let h = (insert_missing (new g s) (table g s) c.in-Err.i (missing g c)).0 in
+    mul-le-mul_right g.row.W (omega (arith, h, rows_length g.row.W c.args.n c.args.t.now))
 
-pub slice_bounds-find-end : goal.slice_bounds-find-end
-slice_bounds-find-end c = sym (length-take-le 32 c.args.row.now c.requires.wide)
-
-pub find-f-requires : goal.find-f-requires
-find-f-requires c = (c.requires, length-take-le 32 c.args.row.now c.requires.wide)
-
-pub returns-then-t-to : goal.returns-then-t-to
-returns-then-t-to c = put_none (width (goal.at-returns-then-t-to c).Start) _ (gap (goal.at-returns-then-t-to c).In-Missing) _ _ c.requires refl (missing (goal.at-returns-then-t-to c).In-Missing) c.if-t-to.true
-
-pub shift_up-requires : goal.shift_up-requires
-shift_up-requires c = (begins (goal.at-shift_up-requires c).In-Missing, omega arith)
-
-pub copy_in-requires-in-Missing : goal.copy_in-requires-in-Missing
-copy_in-requires-in-Missing c = omega (arith, begins (goal.at-copy_in-requires-in-Missing c).In-Missing, c.shift_up.auto.t)
-
-pub overflow_add-result : goal.overflow_add-result
-overflow_add-result c =
-    omega (arith, mul-le-mul_left c.args.n c.requires.wide, c.requires.fits, c.well_formed.0.0)
-
-pub returns-in-At : goal.returns-in-At
-returns-in-At c =
-    put_at _ _ (place (goal.at-returns-in-At c).In-At) _ _ c.requires refl (found (goal.at-returns-in-At c).In-At) _ c.copy_in.ensures
-
-pub returns-else-t-to : goal.returns-else-t-to
-returns-else-t-to c =
-    put_new _ _ (gap (goal.at-returns-else-t-to c).In-Missing) _ _ c.requires refl (missing (goal.at-returns-else-t-to c).In-Missing) (omega (arith, c.if-t-to.false, c.requires.fits)) _ _
-    c.shift_up.ensures c.copy_in-in-Missing.ensures
-
-pub overflow_mul-at : goal.overflow_mul-at
-overflow_mul-at c = omega (arith, ends c)
+pub overflow_mul-i : goal.overflow_mul-i
+overflow_mul-i g c = omega (arith, ends g (goal.at-overflow_mul-i g c).In-Ok)
 
 pub copy_in-requires : goal.copy_in-requires
-copy_in-requires c = omega (arith, ends (goal.at-copy_in-requires c).In-At)
+copy_in-requires g c = omega (arith, c.told-row, ends g (goal.at-copy_in-requires g c).In-Ok)
 
 pub overflow_mul-from : goal.overflow_mul-from
-overflow_mul-from c = omega (arith, begins c)
+overflow_mul-from g c = omega (arith, begins g c)
 
-pub overflow_sub-t : goal.overflow_sub-t
-overflow_sub-t c = omega (arith, begins c, c.requires.fits)
+pub returns-then-t-to : goal.returns-then-t-to
+returns-then-t-to g c =
+    put_none _ _ c.in-Err.i _ _ c.requires c.told-row (missing g (goal.at-returns-then-t-to g c).In-Err) c.if-t-to.true
+
+pub overflow_add-from : goal.overflow_add-from
+overflow_add-from g c = omega (arith, begins g (goal.at-overflow_add-from g c).In-Err)
+
+pub copy_within-requires-clause-start_le_end : goal.copy_within-requires-clause-start_le_end
+copy_within-requires-clause-start_le_end g c = begins g (goal.at-copy_within-requires-clause-start_le_end g c).In-Err
+
+pub copy_within-requires-clause-dest_in_bounds : goal.copy_within-requires-clause-dest_in_bounds
+copy_within-requires-clause-dest_in_bounds g c = omega (arith, begins g (goal.at-copy_within-requires-clause-dest_in_bounds g c).In-Err)
+
+pub copy_in-requires-in-Err : goal.copy_in-requires-in-Err
+copy_in-requires-in-Err g c = omega (arith, c.told-row, begins g (goal.at-copy_in-requires-in-Err g c).In-Err, c.copy_within.ensures.len)
+
+pub returns-in-Ok : goal.returns-in-Ok
+returns-in-Ok g c = put_at _ _ c.in-Ok.i _ _ c.requires c.told-row (found g (goal.at-returns-in-Ok g c).In-Ok) _ (rw c.told-row at c.copy_in.ensures)
+
+pub returns-else-t-to : goal.returns-else-t-to
+returns-else-t-to g c =
+    put_new _ _ c.in-Err.i _ _ c.requires c.told-row (missing g (goal.at-returns-else-t-to g c).In-Err) (omega (arith, c.if-t-to.false, c.requires.fits)) _ _
+    c.copy_within.ensures.after (rw c.told-row at c.copy_in-in-Err.ensures)

@@ -3,7 +3,4 @@ use Rattle.text.specs.LaidLaws.{laid_field}
 use Rattle.text.proofs.decimal.field.Goals as goal
 
 pub returns : goal.returns
-returns c =
-    let a = c.args in
-    laid_field a.out.now _ _ a.name.now a.at c.put_bytes-next.result c.decimal.result a.n
-    c.requires c.put_bytes-next.ensures c.decimal.ensures
+returns c = laid_field _ _ _ _ _ _ _ _ c.requires c.put_bytes-next.ensures c.decimal.ensures

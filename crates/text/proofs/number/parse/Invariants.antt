@@ -1,12 +1,7 @@
-use mathlib.Core.Path.{◌≡◌}
-use Prim.Native.Nat.{◌-◌, ◌≤◌}
-use lib.ListN.{length, drop}
+use Rattle.std.proofs.Common.{◌≡◌, Some, drop}
 use Rattle.text.specs.Number.{parsed_from, parsed_of}
-use Rattle.text.specs.declared.number.ParsedNumber.TheVariants.{Number}
 use Rattle.text.proofs.number.parse.Given as goal
 
-abbrev pub invariant-loop-i : goal.invariant-loop-i
-invariant-loop-i l = (l.i ≤ length l.s) × (parsed_of l.s ≡ parsed_from (Number l.n) (drop l.i l.s))
-
-abbrev pub decreases-loop-i : goal.decreases-loop-i
-decreases-loop-i l = length l.s - l.i
+-- what is left decides
+abbrev pub invariant-loop-x : goal.invariant-loop-x
+invariant-loop-x l = parsed_of l.s ≡ parsed_from (Some l.n) (drop l.x-index l.s)

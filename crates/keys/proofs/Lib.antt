@@ -1,2 +1,0 @@
--- What functions cite by their attributes.
-pub mod Few

@@ -1,0 +1,9 @@
+-- The rows of a loader that code holds as one value, if there is one.
+use Rattle.std.specs.Prelude.{List, Option, Some, None}
+use Rattle.tables.specs.Rows.{Row}
+use Rattle.tables.specs.Content.{content}
+use Rattle.tables.specs.declared.rows.Rows.{Rows}
+
+abbrev pub loaded : Option (Rows 40) → Option (List Row)
+loaded (Some t) = Some (content t)
+loaded None = None

@@ -1,2 +1,0 @@
--- What the proofs of this module use: laws of numbers of two words.
-mod Laws

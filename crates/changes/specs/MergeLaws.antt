@@ -19,7 +19,7 @@ use Rattle.tables.specs.TableTheorems.{held_bytes, inserted_table}
 use Rattle.changes.specs.ChangeList.{list_output_by}
 use Rattle.changes.specs.Merge.{merged, merged_in, merge_answer, merge_output}
 use Rattle.changes.specs.RowPut.{RowPut}
-use Rattle.changes.specs.LeftLaws.{rows_in, rows_none, next_rows}
+use Rattle.changes.specs.LeftLaws.{whole_rows, rows_none, next_rows}
 use Rattle.changes.specs.declared.ChangeError.{ChangeError}
 
 -- a row put in makes one row more at most
@@ -60,12 +60,12 @@ pub record Putting (all : List Row) (n : ℕ) (t₀ : List ℕ) (m : ℕ) (t : L
   pub table : Table 40 k t
   pub least : m ≤ k
   pub most : k * 40 + length r ≤ (m + n) * 40
-  pub same : merged all (rows 40 m t₀) ≡ merged (rows_in r) (rows 40 k t)
+  pub same : merged all (rows 40 m t₀) ≡ merged (whole_rows r) (rows 40 k t)
   pub rest : drop (k * 40) t ≡ drop (k * 40) t₀
   pub size : length t ≡ length t₀
 
 module _ {all : List Row} {n : ℕ} {t₀ : List ℕ} {m : ℕ} where
-  pub putting_start : (r : List ℕ) → Table 40 m t₀ → rows_in r ≡ all → length r ≡ n * 40 → Putting all n t₀ m t₀ m r
+  pub putting_start : (r : List ℕ) → Table 40 m t₀ → whole_rows r ≡ all → length r ≡ n * 40 → Putting all n t₀ m t₀ m r
   putting_start r tb e l = record {
     table = tb;
     least = omega arith;
@@ -83,7 +83,7 @@ module _ {all : List Row} {n : ℕ} {t₀ : List ℕ} {m : ℕ} where
       table = w.table;
       least = omega (arith, p.least, w.least);
       most = omega (arith, p.most, w.most, ap length e, length-append x v);
-      same = p.same ∙ ap (λ (cs : List Row). merged cs (rows 40 k t)) (next_rows r x v e l) ∙ ap (merged (rows_in v)) (sym w.is);
+      same = p.same ∙ ap (λ (cs : List Row). merged cs (rows 40 k t)) (next_rows r x v e l) ∙ ap (merged (whole_rows v)) (sym w.is);
       rest = w.rest ∙ drop_beyond (k * 40) (j * 40) t t₀ (omega (arith, w.least)) p.rest;
       size = z ∙ p.size;
     }

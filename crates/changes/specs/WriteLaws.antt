@@ -8,7 +8,7 @@ use Rattle.words.proofs.BytesTheorems.{write_back, bytes_take, bytes_drop}
 use Rattle.tables.specs.Rows.{Row, row_in, bytes_of}
 use Rattle.changes.specs.ChangeList.{changed}
 use Rattle.changes.specs.Changed.{sameb, written}
-use Rattle.changes.specs.LeftLaws.{rows_in, left_by_lem, left_none}
+use Rattle.changes.specs.LeftLaws.{whole_rows, left_by_lem, left_none}
 
 -- the bytes that a row was read from come back
 row_bytes : (x : List ℕ) (rs : List Row) → Bytes x → length x ≡ 40 → bytes_of 40 (row_in 40 x ∷ rs) ≡ x ++ bytes_of 40 rs
@@ -43,14 +43,14 @@ row_written x out u rs to b l room p =
 
 -- rows are written up to `to`; what changed of those in the bytes r that are left decides the rest
 pub record Writing (ss ls all : List Row) (out₀ out : List ℕ) (to : ℕ) (r : List ℕ) : Type 0 where
-  pub room : to + length (changed ss ls (rows_in r)) * 40 ≤ length out
-  pub rest : written (changed ss ls all) out₀ ≡ take to out ++ written (changed ss ls (rows_in r)) (drop to out)
+  pub room : to + length (changed ss ls (whole_rows r)) * 40 ≤ length out
+  pub rest : written (changed ss ls all) out₀ ≡ take to out ++ written (changed ss ls (whole_rows r)) (drop to out)
   pub size : length out ≡ length out₀
 
 module _ {ss ls all : List Row} {out₀ : List ℕ} where
-  pub writing_start : (r : List ℕ) → rows_in r ≡ all → length (changed ss ls all) * 40 ≤ length out₀ → Writing ss ls all out₀ out₀ 0 r
+  pub writing_start : (r : List ℕ) → whole_rows r ≡ all → length (changed ss ls all) * 40 ≤ length out₀ → Writing ss ls all out₀ out₀ 0 r
   writing_start r e h =
-      let q : changed ss ls (rows_in r) ≡ changed ss ls all = ap (changed ss ls) e in
+      let q : changed ss ls (whole_rows r) ≡ changed ss ls all = ap (changed ss ls) e in
       record { room = omega (arith, ap length q); rest = ap (λ (rs : List Row). written rs out₀) (sym q); size = refl }
 
   module _ {out : List ℕ} {to : ℕ} {r : List ℕ} (w : Writing ss ls all out₀ out to r) where
@@ -61,14 +61,14 @@ module _ {ss ls all : List Row} {out₀ : List ℕ} where
     module _ (x t : List ℕ) (e : r ≡ x ++ t) (l : length x ≡ 40) where
       pub writing_same : true ≡ sameb ss ls (row_in 40 x) → Writing ss ls all out₀ out to t
       writing_same s =
-          let q : changed ss ls (rows_in r) ≡ changed ss ls (rows_in t) = left_by_lem r x t e l ss ls true s in
+          let q : changed ss ls (whole_rows r) ≡ changed ss ls (whole_rows t) = left_by_lem r x t e l ss ls true s in
           record {
             room = omega (arith, ap length q, w.room);
             rest = w.rest ∙ ap (λ (rs : List Row). take to out ++ written rs (drop to out)) q;
             size = w.size;
           }
 
-      pub room_new : false ≡ sameb ss ls (row_in 40 x) → to + 40 + length (changed ss ls (rows_in t)) * 40 ≤ length out
+      pub room_new : false ≡ sameb ss ls (row_in 40 x) → to + 40 + length (changed ss ls (whole_rows t)) * 40 ≤ length out
       room_new s = omega (arith, ap length (left_by_lem r x t e l ss ls false s), w.room)
 
       pub writing_new : false ≡ sameb ss ls (row_in 40 x) → (u : List ℕ) → Bytes u → u ≡ paste out to x (length x) → Writing ss ls all out₀ u (to + 40) t
@@ -79,6 +79,6 @@ module _ {ss ls all : List Row} {out₀ : List ℕ} where
             room = omega (arith, room_new s, lu);
             rest =
                 w.rest ∙ ap (λ (rs : List Row). take to out ++ written rs (drop to out)) (left_by_lem r x t e l ss ls false s)
-                ∙ row_written x out u (changed ss ls (rows_in t)) to b l fit p;
+                ∙ row_written x out u (changed ss ls (whole_rows t)) to b l fit p;
             size = lu ∙ w.size;
           }

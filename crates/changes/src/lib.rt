@@ -111,6 +111,7 @@ pub(crate) fn counted(bytes: &[u8], count: usize) -> Option<Rows<'_, 40>>
 }
 
 // The stored keys whose last value differs from the starting value, rising, with their last values.
+// The count comes apart, as the C interface lends it.
 pub fn change_list(
     changes: &[u8],
     count: usize,

@@ -45,7 +45,7 @@ fn merge_whole(changes: Rows<40>, store: Rows<40>, out: &mut [u8]) -> Result<usi
     Ok(put_rows(out, store.count, changes))
 }
 
-// The store's rows with the counted changes put in, rising.
+// The store's rows with the counted changes put in, rising. The count comes apart, as the C interface lends it.
 pub fn merge(
     changes: &[u8],
     count: usize,

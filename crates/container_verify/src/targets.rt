@@ -5,6 +5,7 @@ ghost use Rattle.starts.specs.Marks.{marked, Holds};
 
 use isa::flow::Refers;
 
+// A target at which no instruction starts. `index_of` (starts) differs in its test.
 #[tactic(auto, unfolding(crate::specs::Targets::target_stands))]
 fn target_of(r: Refers, map: &[u8]) -> Result<(), u64>
     ensures { result ≡ target_stands r (marked map.now) }

@@ -153,14 +153,14 @@ none_left zero (x ∷ xs) h = refl
 none_left (suc n) xs h = absurd (omega arith)
 
 -- the bytes of n entries of a list
-abbrev pub bytes_of : ℕ → List ℕ → List ℕ
-bytes_of n xs = entries_bytes (or_empty (entries_in n xs))
+abbrev pub laid_bytes : ℕ → List ℕ → List ℕ
+laid_bytes n xs = entries_bytes (or_empty (entries_in n xs))
 
-bytes_turn : (n : ℕ) (xs : List ℕ) → More n xs → bytes_of n xs ≡ entry_bytes (entry_in xs) ++ bytes_of (n - 1) (after_entry xs)
+bytes_turn : (n : ℕ) (xs : List ℕ) → More n xs → laid_bytes n xs ≡ entry_bytes (entry_in xs) ++ laid_bytes (n - 1) (after_entry xs)
 unfolding entries_bytes
 bytes_turn n xs m = ap entries_bytes m.are
 
-bytes_end : (n : ℕ) (xs : List ℕ) → n ≡ 0 → bytes_of n xs ≡ []
+bytes_end : (n : ℕ) (xs : List ℕ) → n ≡ 0 → laid_bytes n xs ≡ []
 unfolding entries_bytes
 bytes_end n xs h = ap entries_bytes (none_left n xs h)
 
@@ -176,12 +176,12 @@ module _ (n i : ℕ) (xs : List ℕ) where
       rw (rest (6 + k) xs, e, ← m) (more (n - i) xs (omega arith) s).next
 
   pub bytes_at : i < n → is_some (entries_in (n - i) xs) ≡ true → (k : ℕ) → k ≡ slots_in xs →
-      bytes_of (n - i) xs ≡ entry_bytes (entry_in xs) ++ bytes_of (n - (i + 1)) (take (length xs - (6 + k)) (drop (6 + k) xs))
+      laid_bytes (n - i) xs ≡ entry_bytes (entry_in xs) ++ laid_bytes (n - (i + 1)) (take (length xs - (6 + k)) (drop (6 + k) xs))
   bytes_at h s k e =
       let m : n - i - 1 ≡ n - (i + 1) = omega arith in
       rw (rest (6 + k) xs, e, ← m) (bytes_turn (n - i) xs (more (n - i) xs (omega arith) s))
 
-  pub bytes_after : n ≤ i → bytes_of (n - i) xs ≡ []
+  pub bytes_after : n ≤ i → laid_bytes (n - i) xs ≡ []
   bytes_after h = bytes_end (n - i) xs (omega arith)
 
 -- the number that a list begins with says how many entries follow

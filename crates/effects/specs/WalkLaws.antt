@@ -18,11 +18,11 @@ pub record EffectsLeft {A : Type 0} (f : List Effect → A) (g : A → A) (log :
   pub same : f es ≡ g (f older)
 
 -- whatever effects the log has, those before `at` decide
-pub record Walked {A : Type 0} (f : List Effect → A) (g : A → A) (log : List ℕ) (end at : ℕ) : Type 0 where
-  pub left : (es : List Effect) → FitTrailers es → take end log ≡ log_of es → EffectsLeft f g log at es
+pub record Walked {A : Type 0} (f : List Effect → A) (g : A → A) (log : List ℕ) (at : ℕ) : Type 0 where
+  pub left : (es : List Effect) → FitTrailers es → log ≡ log_of es → EffectsLeft f g log at es
 
-module _ {A : Type 0} (f : List Effect → A) (g : A → A) (log : List ℕ) (end : ℕ) where
-  pub walk_end : (at : ℕ) → at ≡ 0 → Walked f g log end at → (es : List Effect) → FitTrailers es → take end log ≡ log_of es → g (f []) ≡ f es
+module _ {A : Type 0} (f : List Effect → A) (g : A → A) (log : List ℕ) where
+  pub walk_end : (at : ℕ) → at ≡ 0 → Walked f g log at → (es : List Effect) → FitTrailers es → log ≡ log_of es → g (f []) ≡ f es
   walk_end at z w es s e =
       let p = w.left es s e in
       let n : length (log_of p.older) ≡ 0 = sym (ap length p.bytes) ∙ ap (λ (k : ℕ). length (take k log)) z in
@@ -41,9 +41,9 @@ record Last {A : Type 0} (f : List Effect → A) (g : A → A) (log : List ℕ) 
   front : take t.from log ≡ log_of rest
   same : f es ≡ g (f (head ∷ rest))
 
-module _ {A : Type 0} {f : List Effect → A} {g : A → A} {log : List ℕ} {end at : ℕ} (w : Walked f g log end at) (l : at ≤ length log) (h : 0 < at)
+module _ {A : Type 0} {f : List Effect → A} {g : A → A} {log : List ℕ} {at : ℕ} (w : Walked f g log at) (l : at ≤ length log) (h : 0 < at)
     (t : Trailer) (b : EndingAt log at t) where
-  last : (es : List Effect) → FitTrailers es → take end log ≡ log_of es → Last f g log t es
+  last : (es : List Effect) → FitTrailers es → log ≡ log_of es → Last f g log t es
   unfolding trailer_of log_of
   last es s e = let p = w.left es s e in go p.older p.small p.bytes p.same
     where
@@ -62,7 +62,7 @@ module _ {A : Type 0} {f : List Effect → A} {g : A → A} {log : List ℕ} {en
           }
 
   -- past a record: what the older ones answer gives the answer by g'
-  pub walk_turn : (g' : A → A) → ((e : Effect) (es : List Effect) → Tells log t e es → g (f (e ∷ es)) ≡ g' (f es)) → Walked f g' log end t.from
+  pub walk_turn : (g' : A → A) → ((e : Effect) (es : List Effect) → Tells log t e es → g (f (e ∷ es)) ≡ g' (f es)) → Walked f g' log t.from
   walk_turn g' k = record {
     left = λ es s e.
         let n = last es s e in
@@ -71,5 +71,5 @@ module _ {A : Type 0} {f : List Effect → A} {g : A → A} {log : List ℕ} {en
 
   -- at a record that decides
   pub walk_stop : (v : A) → ((e : Effect) (es : List Effect) → Tells log t e es → g (f (e ∷ es)) ≡ v) →
-      (es : List Effect) → FitTrailers es → take end log ≡ log_of es → v ≡ f es
+      (es : List Effect) → FitTrailers es → log ≡ log_of es → v ≡ f es
   walk_stop v k es s e = let n = last es s e in sym (n.same ∙ k n.head n.rest n.tells)

@@ -1,5 +1,5 @@
 // Durable targets: those of transfers and of mints (document 01, The run: Send, Emit).
-ghost use Rattle.std.specs.Prelude.{◌≡◌, List, ◌≤◌, length, take};
+ghost use Rattle.std.specs.Prelude.{◌≡◌, List};
 ghost use Rattle.effects.specs.Log.{Effect, FitTrailers, log_of};
 ghost use Rattle.effects.specs.Targets.{known_in, any_target};
 ghost use Rattle.effects.specs.Trailers.{durable_of, alike_of};
@@ -29,13 +29,13 @@ fn alike(t: Trailer, kind: u8, size: usize) -> bool
     }
 }
 
-// Whether the log's first `end` bytes hold a target of this kind and these bytes.
-pub fn known(log: &[u8], end: usize, kind: u8, target: &[u8]) -> bool
-    requires { end ≤ length log.now }
-    ensures { (es : List Effect) → FitTrailers es → take end log.now ≡ log_of es →
+// Whether the log holds a target of this kind and these bytes.
+pub fn known(log: &[u8], kind: u8, target: &[u8]) -> bool
+    ensures { (es : List Effect) → FitTrailers es → log.now ≡ log_of es →
         result ≡ known_in (record { kind = kind; bytes = target.now }) es }
 {
-    let mut at = end;
+    let mut at = log.len();
+    // Document 01 names the form: a label leaves both walks.
     'walk: loop {
         if at == 0 {
             break 'walk false;
@@ -54,12 +54,11 @@ pub fn known(log: &[u8], end: usize, kind: u8, target: &[u8]) -> bool
     }
 }
 
-// Whether the log's first `end` bytes hold a target.
-pub fn any_target(log: &[u8], end: usize) -> bool
-    requires { end ≤ length log.now }
-    ensures { (es : List Effect) → FitTrailers es → take end log.now ≡ log_of es → result ≡ any_target es }
+// Whether the log holds a target.
+pub fn any_target(log: &[u8]) -> bool
+    ensures { (es : List Effect) → FitTrailers es → log.now ≡ log_of es → result ≡ any_target es }
 {
-    let mut at = end;
+    let mut at = log.len();
     // No range to go over: where a record begins is read in its trailer.
     while at > 0 {
         let t = crate::trailer::record_ending_at(log, at);

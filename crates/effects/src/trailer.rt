@@ -2,7 +2,7 @@
 ghost use Rattle.std.specs.Prelude.{◌≡◌, ◌≤◌, ◌<◌, length};
 ghost use Rattle.effects.specs.Trailers.{EndingAt};
 
-// A record's kind, word and number of bytes, and where it begins.
+// A record's kind, word and number of bytes, and where it begins. The kind is a number: a lent log may hold any (`log_of`).
 #[derive(Clone, Copy)]
 pub struct Trailer {
     pub kind: u8,

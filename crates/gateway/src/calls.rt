@@ -48,6 +48,7 @@ fn answer_words(a: Answer) -> [u64; 23]
 }
 
 // A call opened and run, and the words of its answer; nothing is touched where they have no room.
+// The buffers stand one by one, as the C interface lends them.
 fn answer_call(
     call: Call,
     container: &[u8],

@@ -19,7 +19,7 @@ fn sizes_fit(memory: usize, stack: usize, starts: usize) -> bool
     memory == 65536 && stack == 1024 && starts == 8192
 }
 
-// The call's answer; a refused opening touches nothing.
+// The call's answer; a refused opening touches nothing. The buffers stand one by one, as the C interface lends them.
 pub fn run(
     call: Call,
     container: &[u8],

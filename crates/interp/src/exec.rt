@@ -36,6 +36,7 @@ pub(crate) fn exec(start: Run, program: Program, work: &mut Work) -> Ended
 {
     let mut file = RegFile::new();
     let mut run = start;
+    // No index: a run ends where it halts or faults.
     loop {
         let d = isa::codec::decode(program.code, run.pc as usize);
         match crate::fetch::fetch(d, run) {

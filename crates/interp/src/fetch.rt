@@ -35,7 +35,7 @@ pub(crate) fn fetch(d: Result<(Instr, usize), DecodeError>, run: Run) -> Result<
     onward(i, n, counted)
 }
 
-// The instruction that was decoded, taken out where it is stepped with: inside `Fetched` it would go through memory once more.
+// The instruction that was decoded, taken out where it is stepped with: in `fetch`'s answer it would go through memory once more.
 pub fn instruction(d: Result<(Instr, usize), DecodeError>) -> Instr
     ensures { result ≡ instruction_in d }
 {

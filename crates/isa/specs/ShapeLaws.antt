@@ -22,19 +22,19 @@ use Rattle.isa.specs.ComputedLaws.{from}
 use Rattle.isa.specs.FormLaws.{own_regs}
 use Rattle.isa.specs.Codec.{first_bad, refusal_in, unless, operands_of}
 use Rattle.isa.specs.DecodeLaws.{refusal_by, refusal_is}
-use Rattle.isa.specs.Shapes.{Shape, told}
+use Rattle.isa.specs.Shapes.{Shape, ok_unless}
 
 -- ---- whether operands stand
 
 pub operands_told : (n w : ℕ) (s : List ℕ) (f : Option ℕ) (t : Bool) → first_bad (take n s) ≡ f → leb (n + w) (length s) ≡ t →
-    told (refusal_by f t) ≡ told (refusal_in n w s)
+    ok_unless (refusal_by f t) ≡ ok_unless (refusal_in n w s)
 operands_told n w s f t e k = rw (refusal_is n w s, e, k)
 
-none_told : (x : Option DecodeError) → Ok tt ≡ told x → x ≡ None
+none_told : (x : Option DecodeError) → Ok tt ≡ ok_unless x → x ≡ None
 none_told None e = refl
 none_told (Some x) e = absurd (let z : ◌≡◌ {A = ℕ} 0 1 = cc in omega arith)
 
-pub operands_room : (n w : ℕ) (s : List ℕ) → Ok tt ≡ told (refusal_in n w s) → n + w ≤ length s
+pub operands_room : (n w : ℕ) (s : List ℕ) → Ok tt ≡ ok_unless (refusal_in n w s) → n + w ≤ length s
 operands_room n w s h = by (first_bad (take n s)) (leb (n + w) (length s)) refl (sym (none_told (refusal_in n w s) h) ∙ refusal_is n w s)
   where
     by : (f : Option ℕ) (t : Bool) → leb (n + w) (length s) ≡ t → None ≡ refusal_by f t → n + w ≤ length s
@@ -45,20 +45,20 @@ operands_room n w s h = by (first_bad (take n s)) (leb (n + w) (length s)) refl 
 -- ---- what the operands of an opcode of a shape say
 
 module _ (o : OpCode) (s : List ℕ) (n w : ℕ) (h : Shape o n w) where
-  pub shape_refused : (e : DecodeError) → Err e ≡ told (refusal_in n w s) → Err e ≡ operands_of o s
+  pub shape_refused : (e : DecodeError) → Err e ≡ ok_unless (refusal_in n w s) → Err e ≡ operands_of o s
   unfolding operands_of unless
   shape_refused e k = rw (h.0, h.1) (by (refusal_in n w s) _ k)
     where
-      by : (x : Option DecodeError) (d : Result (Instr × ℕ) DecodeError) → Err e ≡ told x → Err e ≡ unless x d
+      by : (x : Option DecodeError) (d : Result (Instr × ℕ) DecodeError) → Err e ≡ ok_unless x → Err e ≡ unless x d
       by None d k = absurd (let z : ◌≡◌ {A = ℕ} 0 1 = cc in omega arith)
       by (Some x) d k = cc
 
   -- the same where `?` hands the refusal on
-  pub shape_err : (r : Result (Instr × ℕ) DecodeError) (e : DecodeError) → IsErrAnd r (λ y. y ≡ e) → Err e ≡ told (refusal_in n w s) → r ≡ operands_of o s
+  pub shape_err : (r : Result (Instr × ℕ) DecodeError) (e : DecodeError) → IsErrAnd r (λ y. y ≡ e) → Err e ≡ ok_unless (refusal_in n w s) → r ≡ operands_of o s
   shape_err (Ok x) e q k = absurd q
   shape_err (Err y) e q k = rw q (shape_refused e k)
 
-  pub shape_done : Ok tt ≡ told (refusal_in n w s) → (i : Instr) → i ≡ instr_of o (from 0 n s) (num (take w (drop n s))) → Ok (i, 1 + n + w) ≡ operands_of o s
+  pub shape_done : Ok tt ≡ ok_unless (refusal_in n w s) → (i : Instr) → i ≡ instr_of o (from 0 n s) (num (take w (drop n s))) → Ok (i, 1 + n + w) ≡ operands_of o s
   unfolding operands_of unless
   shape_done k i e =
       let own : instr_of o (from 0 n s) (num (take w (drop n s))) ≡ instr_of o s (num (take w (drop n s))) = rw h.0 at (own_regs o s (num (take w (drop n s)))) in

@@ -9,6 +9,6 @@ abbrev pub Shape : OpCode → ℕ → ℕ → Type 0
 Shape o n w = (regs_of o ≡ n) × (wide_of o ≡ w)
 
 -- what the reading of operands answers by their refusal
-abbrev pub told : Option DecodeError → Result Unit DecodeError
-told None = Ok tt
-told (Some e) = Err e
+abbrev pub ok_unless : Option DecodeError → Result Unit DecodeError
+ok_unless None = Ok tt
+ok_unless (Some e) = Err e

@@ -4,7 +4,7 @@ ghost use Rattle.words.specs.Bytes.{be_bytes};
 ghost use Rattle.isa.specs.Forms.{form_of};
 ghost use Rattle.isa.specs.Codec.{first_bad, refusal_in, operands_of, decode_at, encoded_of, output_of};
 ghost use Rattle.isa.specs.Reads.{byte_read, reg_read};
-ghost use Rattle.isa.specs.Shapes.{Shape, told};
+ghost use Rattle.isa.specs.Shapes.{Shape, ok_unless};
 ghost use Rattle.isa.specs.Answers.{decode_error, encode_error};
 
 use super::instr::Instr;
@@ -111,7 +111,7 @@ fn first_bad(s: &[u8]) -> Option<u8>
 // else that bytes are missing.
 fn operands(s: &[u8], n: usize, w: usize) -> Result<(), DecodeError>
     requires { n + w ≤ 9 }
-    ensures answer { result ≡ told (refusal_in n w s.now) }
+    ensures answer { result ≡ ok_unless (refusal_in n w s.now) }
     ensures room { OnOk result (n + w ≤ length s.now) }
 {
     if let Some(b) = first_bad(&s[..n.min(s.len())]) {

@@ -4,6 +4,6 @@ use Rattle.tables.specs.Rows.{Row}
 use Rattle.tables.specs.Content.{content}
 use Rattle.tables.specs.declared.rows.Rows.{Rows}
 
-abbrev pub loaded : Option (Rows 40) → Option (List Row)
-loaded (Some t) = Some (content t)
-loaded None = None
+abbrev pub loader_content : Option (Rows 40) → Option (List Row)
+loader_content (Some t) = Some (content t)
+loader_content None = None

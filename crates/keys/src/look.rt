@@ -6,7 +6,7 @@ ghost use Rattle.tables.specs.Content.{content};
 ghost use Rattle.keys.specs.Values.{look_in, from_loader};
 ghost use Rattle.keys.specs.Lent.{loader_of};
 ghost use Rattle.keys.specs.Sound.{Loader};
-ghost use Rattle.keys.specs.Tables.{loaded};
+ghost use Rattle.keys.specs.Tables.{loader_content};
 
 use tables::rows::Rows;
 
@@ -28,7 +28,7 @@ pub struct TableRows {
 // The loader's table, if there is a loader.
 pub fn loader_table(lent: TableRows, loader: &[u8]) -> Option<Rows<'_, 40>>
     requires { Loader lent.has_loader lent.loader loader.now }
-    ensures { loaded result ≡ loader_of lent.has_loader (rows 40 lent.loader loader.now) }
+    ensures { loader_content result ≡ loader_of lent.has_loader (rows 40 lent.loader loader.now) }
 {
     if lent.has_loader {
         Some(Rows {
@@ -43,7 +43,7 @@ pub fn loader_table(lent: TableRows, loader: &[u8]) -> Option<Rows<'_, 40>>
 // The loader's value at a key: 0 if it does not have it, or there is none.
 #[tactic(auto, unfolding(crate::specs::Values::from_loader, crate::specs::Values::or_zero))]
 fn fetch(loader: Option<Rows<40>>, key: &[u8; 32]) -> Look
-    ensures { result ≡ from_loader (loaded loader.entry) (num key.now) }
+    ensures { result ≡ from_loader (loader_content loader.entry) (num key.now) }
 {
     match loader {
         Some(t) => Look {
@@ -66,7 +66,7 @@ pub fn look_up(
     fetched: Rows<40>,
     key: &[u8; 32],
 ) -> Look
-    ensures { result ≡ look_in (content changes.entry) (content store.entry) (content fetched.entry) (loaded loader.entry) (num key.now) }
+    ensures { result ≡ look_in (content changes.entry) (content store.entry) (content fetched.entry) (loader_content loader.entry) (num key.now) }
 {
     if let Some(value) = changes.get(key) {
         return Look { value, came: false };

@@ -39,7 +39,7 @@ pub fn listed(list: &[u8], x: u64) -> bool
     false
 }
 
-// Whether every byte is zero.
+// Whether every byte is zero. As in replies: one line over std's `all`, each under its crate's definition.
 fn all_zero(s: &[u8]) -> bool
     ensures { IsTrue result ↔ All (λ b. b ≡ 0) s.now }
 {

@@ -34,6 +34,7 @@ fn fault_line(out: &mut [u8], number: u64, argument: u64, fetches: u64) -> usize
 }
 
 // How a call ended.
+// Room is asked of a slice here and below: an array in its place would ask more of callers.
 #[tactic(auto, unfolding(crate::specs::AnswerLines::end_line, text::specs::Ascii::ascii))]
 pub fn end_line(out: &mut [u8], number: u64, argument: u64, fetches: u64) -> usize
     requires { 96 ≤ length out.old }

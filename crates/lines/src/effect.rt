@@ -62,13 +62,12 @@ pub fn effect_line(out: &mut [u8], log: &[u8], at: usize) -> usize
     }
 }
 
-// Where a log of so many bytes ends without its k newest records.
-pub fn end_before_newest(log: &[u8], end: usize, k: usize) -> usize
-    requires { end ≤ length log.now }
-    ensures { (result ≤ end) × ((es : List Effect) → FitTrailers es → take end log.now ≡ log_of es →
+// Where a log ends without its k newest records.
+pub fn end_before_newest(log: &[u8], k: usize) -> usize
+    ensures { (result ≤ length log.now) × ((es : List Effect) → FitTrailers es → log.now ≡ log_of es →
         take result log.now ≡ log_of (drop k es)) }
 {
-    let mut at = end;
+    let mut at = log.len();
     for _i in 0..k {
         if at == 0 {
             return 0;

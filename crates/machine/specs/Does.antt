@@ -44,15 +44,15 @@ pub record Left (e : Env) (s : List ℕ) (d : ℕ) (t : Turn) (f : RegFile) (b :
   pub sound : Sound e s d t.run b
 
 -- the refusal that a turn's fault tells, which has a number
-abbrev pub Tells : Option Fault → Refusal → Type 0
-Tells None x = ⊥
-Tells (Some n) x = (x ≡ fault_refusal n) × (0 < x.number)
+abbrev pub TellsFault : Option Fault → Refusal → Type 0
+TellsFault None x = ⊥
+TellsFault (Some n) x = (x ≡ fault_refusal n) × (0 < x.number)
 
 -- t and the bytes b are what a step from registers f comes to
 abbrev pub Turned : Env → List ℕ → ℕ → RegFile → Step → Turn → Bufs → Type 0
 Turned e s d f (next m) t b = (t.fault ≡ None) × (t.halted ≡ false) × Left e s d t f b m
 Turned e s d f (halt m) t b = (t.fault ≡ None) × (t.halted ≡ true) × Left e s d t f b m
-Turned e s d f (fault x) t b = Tells t.fault x
+Turned e s d f (fault x) t b = TellsFault t.fault x
 
 -- the same of a rule, played under the limit with so much used and fetched
 pub record Played (e : Env) (s : List ℕ) (d : ℕ) (f : RegFile) (used fetches : ℕ) (r : Rule) (t : Turn) (b : Bufs) : Type 0 where

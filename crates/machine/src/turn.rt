@@ -15,6 +15,7 @@ pub struct Put {
 }
 
 // The run after a turn and what goes into its registers; its fault, if it has one; whether it halts.
+// No Result: the run goes back with a fault too.
 #[derive(Clone, Copy)]
 pub struct Turn {
     pub run: Run,

@@ -9,6 +9,7 @@ use machine::host::Host;
 use words::refusal::Refusal;
 
 // What a call asks for: whether by an entry's call, which refuses the genesis selector; and whether there is a loader.
+// No enum or Option: both kinds have all fields (`entry_call`, `genesis_call`), and the loader's bytes come apart, as the C interface lends them.
 #[derive(Clone, Copy)]
 pub struct Call {
     pub entry: bool,

@@ -19,7 +19,7 @@ use Rattle.machine.specs.Rules.{Rule, next, pass, play}
 use Rattle.machine.specs.CryptoRules.{replied, asking_of, asking}
 use Rattle.machine.specs.Lent.{Bufs, bufs, replies_in, replies_left}
 use Rattle.machine.specs.Sound.{machine_of, Sound}
-use Rattle.machine.specs.Does.{sets, stops, puts, Tells, Played, Does}
+use Rattle.machine.specs.Does.{sets, stops, puts, TellsFault, Played, Does}
 use Rattle.machine.specs.RunParts.{with_replies}
 use Rattle.machine.specs.SoundLaws.{memory_sound, replies_sound}
 use Rattle.machine.proofs.TurnLaws.{pass_on, pass_stops, sets_next}
@@ -91,7 +91,7 @@ module _ (e : Env) (s : List ℕ) (d : ℕ) (f : RegFile) (r : Run) (mem st : Li
 -- ---- what follows a reply
 
 -- no fault tells no refusal
-none_tells : (n : Option Fault) (x : Refusal) → is_some n ≡ false → Tells n x → ⊥
+none_tells : (n : Option Fault) (x : Refusal) → is_some n ≡ false → TellsFault n x → ⊥
 none_tells None x z h = h
 none_tells (Some n) x z h = let w : ◌≡◌ {A = ℕ} 0 1 = cc in omega arith
 

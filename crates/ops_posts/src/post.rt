@@ -32,7 +32,7 @@ fn post_effect(
     if posted > 1048576 {
         return machine::turn::stop(run, Fault::EffectsTooLarge);
     }
-    let price = crate::prices::price(moved, log, kind, word, bytes);
+    let price = crate::prices::price(moved.events, &log[..moved.log], kind, word, bytes);
     let counted = Run { posted, ..moved };
     let Some(paid) = counted.pay(price) else {
         return machine::turn::stop(run, Fault::OutOfMeter);

@@ -8,7 +8,7 @@ pub fn between(s: &[u8], from: usize, to: usize) -> &[u8]
     s.get(from..to).unwrap_or(s)
 }
 
-// The first n bytes; all where there are fewer.
+// The first n bytes; all where there are fewer. Here and in `front` and `bytes` n is what is asked for, not how many there are.
 pub fn first(s: &[u8], n: usize) -> &[u8]
     ensures { result.now ≡ (if nat_lt (length s.now) n then s.now else take n s.now) }
 {

@@ -15,17 +15,13 @@ use std::io;
 use std::io::{BufWriter, Write};
 
 fn runs<W: Write>(out: &mut W, input: &[u8]) -> io::Result<()> {
-    let mut at = 0;
-    // No plainer: how long a run is stands in its own head, so no chunks of one length lie there.
-    while 4 <= input.len() - at {
-        let n = words::bytes::read(input, at, 4) as usize;
-        let from = at + 4;
-        if input.len() - from < n {
+    let mut rest = input;
+    while let Some((length, tail)) = rest.split_first_chunk::<4>() {
+        let Some((run, next)) = tail.split_at_checked(u32::from_be_bytes(*length) as usize) else {
             break;
-        }
-        let end = from + n;
-        crate::run::run(out, &input[from..end])?;
-        at = end;
+        };
+        crate::run::run(out, run)?;
+        rest = next;
     }
     Ok(())
 }

@@ -15,7 +15,7 @@ pub struct Parts<'a> {
     pub preload: &'a [u8],
 }
 
-// The number in four bytes of a head; 0 where they do not stand.
+// The number in four bytes of a head; 0 where no four stand.
 pub fn number(head: &[u8; HEAD], at: usize) -> usize {
     let Some(from) = head.get(at..) else {
         return 0;

@@ -8,6 +8,7 @@ ghost use Rattle.std.specs.Prelude.{◌≡◌, true, ◌≤◌};
 ghost use Rattle.tables.specs.Table.{Table};
 
 use operation::Operation;
+use print::parts::first;
 use std::io;
 use std::io::{BufWriter, Write};
 use tables::rows::Rows;
@@ -50,6 +51,7 @@ fn told<W: Write>(out: &mut W, name: &[u8], new: Option<usize>, old: usize) -> i
     Ok(n)
 }
 
+// `put` and `add`, `get` and `has` call two functions of tables each: no plainer as one that takes both.
 fn put<W: Write>(out: &mut W, t: &mut [u8], n: usize, key: &[u8; 32], v: u64) -> io::Result<usize> {
     if !sorted(t, n, 40) {
         return Ok(n);
@@ -108,11 +110,8 @@ fn append<W: Write>(
     )
 }
 
-fn known<W: Write>(out: &mut W, log: &[u8], end: usize, kind: u8, target: &[u8]) -> io::Result<()> {
-    if log.len() < end {
-        return Ok(());
-    }
-    if effects::targets::known(log, end, kind, target) {
+fn known<W: Write>(out: &mut W, log: &[u8], kind: u8, target: &[u8]) -> io::Result<()> {
+    if effects::targets::known(log, kind, target) {
         print::text(out, b"known")
     } else {
         print::text(out, b"new")
@@ -120,14 +119,11 @@ fn known<W: Write>(out: &mut W, log: &[u8], end: usize, kind: u8, target: &[u8])
 }
 
 // How many records, how many events, and whether there is a durable target.
-fn counts<W: Write>(out: &mut W, log: &[u8], end: usize) -> io::Result<()> {
-    if log.len() < end {
-        return Ok(());
-    }
+fn counts<W: Write>(out: &mut W, log: &[u8]) -> io::Result<()> {
     print::text(out, b"log")?;
-    print::number(out, effects::counts::records(log, end) as u64)?;
-    print::number(out, effects::counts::events(log, end) as u64)?;
-    if effects::targets::any_target(log, end) {
+    print::number(out, effects::counts::records(log) as u64)?;
+    print::number(out, effects::counts::events(log) as u64)?;
+    if effects::targets::any_target(log) {
         print::text(out, b" target")?;
     }
     Ok(())
@@ -151,10 +147,10 @@ fn one<W: Write>(out: &mut W, record: &[u8; 41], s: &mut Stores) -> io::Result<(
             s.end = append(out, &mut s.log, s.end, TRANSFER, v, some_of(key, v))?
         }
         Operation::Event => s.end = append(out, &mut s.log, s.end, EVENT, v, some_of(key, v))?,
-        Operation::KnownTransfer => known(out, &s.log, s.end, TRANSFER, some_of(key, v))?,
+        Operation::KnownTransfer => known(out, first(&s.log, s.end), TRANSFER, some_of(key, v))?,
         Operation::Mint => s.end = append(out, &mut s.log, s.end, EVENT, MINT, body)?,
-        Operation::KnownMint => known(out, &s.log, s.end, EVENT, key)?,
-        Operation::Counts => counts(out, &s.log, s.end)?,
+        Operation::KnownMint => known(out, first(&s.log, s.end), EVENT, key)?,
+        Operation::Counts => counts(out, first(&s.log, s.end))?,
     }
     Ok(())
 }

@@ -12,7 +12,7 @@ pub struct Reply {
     pub bytes: [u8; 32],
 }
 
-// Whether every byte is zero.
+// Whether every byte is zero. As in keys: one line over std's `all`, each under its crate's definition.
 fn all_zero(s: &[u8]) -> bool
     ensures { result ≡ zeros s.now }
 {

@@ -79,7 +79,10 @@ fn lines<W: Write>(out: &mut W, limit: u64, left: Left) -> io::Result<()> {
         return Ok(());
     }
     report::changes(out, left.changes, answer.changes as usize)?;
-    report::effects(out, left.log, answer.log as usize)
+    match left.log.get(..answer.log as usize) {
+        Some(log) => report::effects(out, log),
+        None => Ok(()),
+    }
 }
 
 // What a call left: lines, and the new store if it halted and one is asked for, also where the lines were not taken.

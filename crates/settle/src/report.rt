@@ -30,16 +30,13 @@ pub fn changes<W: Write>(out: &mut W, t: &[u8], n: usize) -> io::Result<()> {
     Ok(())
 }
 
-// The effects of a log's first bytes, in the order of their posting: each is found by a walk from the log's end.
-pub fn effects<W: Write>(out: &mut W, log: &[u8], end: usize) -> io::Result<()> {
-    if log.len() < end {
-        return Ok(());
-    }
-    let n = effects::counts::records(log, end);
+// The effects of a log, in the order of their posting: each is found by a walk from the log's end.
+pub fn effects<W: Write>(out: &mut W, log: &[u8]) -> io::Result<()> {
+    let n = effects::counts::records(log);
     crate::said::count(out, b"effects", n as u64)?;
     let mut line = [0u8; EFFECT_LINE];
     for newer in (0..n).rev() {
-        let at = lines::effect::end_before_newest(log, end, newer);
+        let at = lines::effect::end_before_newest(log, newer);
         if at == 0 {
             break;
         }

@@ -26,7 +26,7 @@ pub fn failed<E: Write>(
     complain(err, what, why.as_bytes())
 }
 
-// The first n bytes and the line's end.
+// The first n bytes, as many as a text laid into a buffer has, and the line's end.
 pub fn line<W: Write>(out: &mut W, s: &[u8], n: usize) -> io::Result<()> {
     print::front(out, s, n)?;
     print::text(out, b"\n")

@@ -6,6 +6,7 @@ ghost use Rattle.starts.specs.Marks.{Marks};
 use super::scan_answers::ScanError;
 use isa::flow::Refers;
 
+// A constant's index that no constant has. `target_of` (container_verify) differs in its test.
 #[tactic(auto, unfolding(crate::specs::Walk::index_of))]
 fn index_of(r: Refers, consts: u64) -> Result<(), u64>
     ensures { result ≡ index_of r consts }

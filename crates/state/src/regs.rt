@@ -13,7 +13,7 @@ pub struct RegFile {
     pub r: [u64; 16],
 }
 
-// The file after an operation, and the operation's fault, which leaves the file as it was.
+// The file after an operation, and the operation's fault, which leaves the file as it was. No Result: the file goes back with a fault too.
 #[derive(Clone, Copy)]
 pub struct Stepped {
     pub file: RegFile,
@@ -45,6 +45,7 @@ fn pair(r: &[u64], lo: u8, hi: u8) -> Wide
     }
 }
 
+// No plainer by a derived equality: the clause is the number's.
 fn is_zero(w: Wide) -> bool
     ensures { result ≡ (wide w == 0) }
 {
@@ -59,7 +60,7 @@ fn two(r: &[u64], op: Op, d: u8, a: u8, b: u8) -> Result<Outcome, Fault>
     Ok(Outcome::Put(d, v))
 }
 
-// A division of two words by two.
+// A division of two words by two: the Rust's six registers, by its names.
 fn divide(
     r: &[u64],
     want: Wanted,

@@ -2,6 +2,7 @@
 ghost use Rattle.std.specs.Prelude.{◌≡◌, ◌≤◌, length, slice_set};
 ghost use Rattle.state.specs.Stack.{push_of, pop_of};
 
+// The depth stands beside the words, for it is the run's (`Run`, machine), and the words are lent.
 pub fn push(stack: &mut [u64], depth: usize, v: u64) -> Option<usize>
     ensures answer { result ≡ push_of (length stack.old) depth }
     ensures contents { stack.new ≡ slice_set stack.old depth v }

@@ -13,6 +13,7 @@ fn digits(n: u64) -> usize
 }
 
 // The last w digits of a number, at a place: the last first.
+// No plainer as one function with `words::bytes::write`: readers know `last_digits` and `be_bytes` as two.
 #[tactic(auto, using(crate::specs::DecimalLaws::put_turn))]
 fn put_digits(out: &mut [u8], at: usize, w: usize, n: u64)
     requires { at + w ≤ length out.old }

@@ -44,6 +44,7 @@ pub(crate) fn descend(n: Wide, d: Wide, from: u64) -> Divided<Wide>
     ensures { Divides (wide n) (wide d) (wide result.q) (wide result.r) }
 {
     let mut e = from;
+    // No index: the estimate comes down until its product fits.
     loop {
         let hi = n.hi - e * d.hi;
         let rest = Wide { hi, lo: n.lo };

@@ -4,7 +4,7 @@ use Rattle.std.proofs.Common.{ap, ◌∙◌, arith, length-append, length-take-l
 use Rattle.std.specs.Slice.Iter.{chunks_exact_rest, chunks_exact_size}
 use Rattle.tables.specs.Content.{content}
 use Rattle.changes.specs.ChangeList.{changed}
-use Rattle.changes.specs.LeftLaws.{rows_in, rows_taken, left_by_lem, left_none}
+use Rattle.changes.specs.LeftLaws.{whole_rows, rows_taken, left_by_lem, left_none}
 use Rattle.changes.proofs.count_changed.Goals as goal
 
 pub loop-row-init : goal.loop-row-init
@@ -13,7 +13,7 @@ loop-row-init c =
     let e = c.into_iter-row-iterator.ensures.into_iter_gives in
     let r : chunks_exact_rest c.into_iter-row-iterator.result ≡ take (t.count * 40) t.bytes.now =
     ap chunks_exact_rest e ∙ c.chunks_exact-row-items.ensures.rest in
-    let all = ap rows_in r ∙ rows_taken t.count t.bytes.now t.table.fits in
+    let all = ap whole_rows r ∙ rows_taken t.count t.bytes.now t.table.fits in
     record {
       size = ap chunks_exact_size e ∙ c.chunks_exact-row-items.ensures.size;
       fits = omega (arith, ap length r, length-take-le (t.count * 40) t.bytes.now t.table.fits);

@@ -2,7 +2,7 @@
 use Rattle.std.specs.Prelude.{◌≡◌, ◌*◌, take}
 use Rattle.std.proofs.Common.{ap, ◌∙◌, arith}
 use Rattle.std.specs.Slice.Iter.{chunks_exact_rest, chunks_exact_size}
-use Rattle.changes.specs.LeftLaws.{rows_in, rows_taken}
+use Rattle.changes.specs.LeftLaws.{whole_rows, rows_taken}
 use Rattle.changes.specs.WriteLaws.{writing_start, writing_same, room_new, writing_new, writing_end}
 use Rattle.changes.proofs.write_changed.Goals as goal
 
@@ -14,7 +14,7 @@ loop-row-init c =
     ap chunks_exact_rest e ∙ c.chunks_exact-row-items.ensures.rest in
     record {
       size = ap chunks_exact_size e ∙ c.chunks_exact-row-items.ensures.size;
-      writing = writing_start _ (ap rows_in r ∙ rows_taken t.count t.bytes.now t.table.fits) c.requires;
+      writing = writing_start _ (ap whole_rows r ∙ rows_taken t.count t.bytes.now t.table.fits) c.requires;
     }
 
 pub copy_in-requires : goal.copy_in-requires

@@ -1,8 +1,5 @@
-use Rattle.std.proofs.Common.{◌≤◌, length, ◌-◌}
+use Rattle.std.proofs.Common.{length}
 use Rattle.replay_key_steps.proofs.runs.Given as goal
 
-abbrev pub invariant-loop-at : goal.invariant-loop-at
-invariant-loop-at g l = l.at ≤ length l.input
-
-abbrev pub decreases-loop-at : goal.decreases-loop-at
-decreases-loop-at g l = length l.input - l.at
+abbrev pub decreases-loop-length : goal.decreases-loop-length
+decreases-loop-length g l = length l.rest

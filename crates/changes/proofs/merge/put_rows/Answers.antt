@@ -2,7 +2,7 @@
 use Rattle.std.specs.Prelude.{◌≡◌, ◌*◌, length, take}
 use Rattle.std.proofs.Common.{ap, ◌∙◌, arith, length-take-le}
 use Rattle.std.specs.Slice.Iter.{chunks_exact_rest, chunks_exact_size}
-use Rattle.changes.specs.LeftLaws.{rows_in, rows_taken}
+use Rattle.changes.specs.LeftLaws.{whole_rows, rows_taken}
 use Rattle.changes.specs.MergeLaws.{putting_start, putting_turn, putting_end}
 use Rattle.changes.proofs.merge.put_rows.Goals as goal
 
@@ -14,7 +14,7 @@ loop-row-init c =
     ap chunks_exact_rest e ∙ c.chunks_exact-row-items.ensures.rest in
     record {
       size = ap chunks_exact_size e ∙ c.chunks_exact-row-items.ensures.size;
-      putting = putting_start _ c.requires.0 (ap rows_in r ∙ rows_taken t.count t.bytes.now t.table.fits) (ap length r ∙ length-take-le (t.count * 40) t.bytes.now t.table.fits);
+      putting = putting_start _ c.requires.0 (ap whole_rows r ∙ rows_taken t.count t.bytes.now t.table.fits) (ap length r ∙ length-take-le (t.count * 40) t.bytes.now t.table.fits);
     }
 
 pub loop-row-preserved : goal.loop-row-preserved

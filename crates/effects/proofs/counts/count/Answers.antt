@@ -29,4 +29,4 @@ pub returns : goal.returns
 unfolding count_of
 returns c =
     let turn = c.loop-at in
-    λ es s e. sym (add-zero turn.n) ∙ walk_end _ _ _ _ turn.at (omega arith) turn.invariant.1 es s e
+    λ es s e. sym (add-zero turn.n) ∙ walk_end _ _ _ turn.at (omega arith) turn.invariant.1 es s e

@@ -25,4 +25,4 @@ loop-at-preserved c =
 
 pub returns : goal.returns
 unfolding any_target
-returns c = let turn = c.loop-at in walk_end _ _ _ _ turn.at (omega arith) turn.invariant.1
+returns c = let turn = c.loop-at in walk_end _ _ _ turn.at (omega arith) turn.invariant.1

@@ -13,7 +13,7 @@ asked_for c = record { kind = c.args.kind; bytes = c.args.target.now }
 -- where this record has not the target, the older ones decide
 on : (c : After-record_ending_at-t) → let t = c.record_ending_at-t.result in
     hits (asked_for c) t c.args.log.now ≡ false
-    → (t.from ≤ c.args.end) × Walked (known_in (asked_for c)) (λ (b : Bool). b) c.args.log.now c.args.end t.from
+    → (t.from ≤ length c.args.log.now) × Walked (known_in (asked_for c)) (λ (b : Bool). b) c.args.log.now t.from
 on c h = (
   omega (arith, c.record_ending_at-t.ensures.less),
   walk_turn c.walk.invariant.1 (omega arith) (omega arith) c.record_ending_at-t.result c.record_ending_at-t.ensures _
@@ -22,7 +22,7 @@ on c h = (
 
 -- the target's bytes lie within the log
 room : (c : Else-not-alike) → c.record_ending_at-t.result.from + length c.args.target.now ≤ length c.args.log.now
-room c = omega (arith, alike_within _ _ _ (sym c.if-not-alike.ensures), c.record_ending_at-t.ensures.within, c.walk.invariant.0, c.requires)
+room c = omega (arith, alike_within _ _ _ (sym c.if-not-alike.ensures), c.record_ending_at-t.ensures.within, c.walk.invariant.0)
 
 pub walk-preserved-then-not-alike : goal.walk-preserved-then-not-alike
 walk-preserved-then-not-alike c = on (goal.at-walk-preserved-then-not-alike c).After-record_ending_at-t (rw (sym c.if-not-alike.ensures))
@@ -39,7 +39,7 @@ walk-preserved c =
 
 pub returns-then-at-eq0 : goal.returns-then-at-eq0
 unfolding known_in
-returns-then-at-eq0 c = walk_end _ _ _ _ c.walk.at c.if-at-eq0.true c.walk.invariant.1
+returns-then-at-eq0 c = walk_end _ _ _ c.walk.at c.if-at-eq0.true c.walk.invariant.1
 
 pub returns-after-loop-i : goal.returns-after-loop-i
 returns-after-loop-i c =

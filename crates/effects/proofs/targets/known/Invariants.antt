@@ -10,7 +10,7 @@ abbrev pub decreases-loop-i : goal.decreases-loop-i
 decreases-loop-i l = l.i
 
 abbrev pub invariant-walk : goal.invariant-walk
-invariant-walk l = (l.at ≤ l.end) × Walked (known_in (record { kind = l.kind; bytes = l.target })) (λ (b : Bool). b) l.log l.end l.at
+invariant-walk l = (l.at ≤ length l.log) × Walked (known_in (record { kind = l.kind; bytes = l.target })) (λ (b : Bool). b) l.log l.at
 
 abbrev pub decreases-walk : goal.decreases-walk
 decreases-walk l = l.at

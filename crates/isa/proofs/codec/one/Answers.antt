@@ -17,7 +17,7 @@ use Rattle.isa.specs.ComputedLaws.{from}
 use Rattle.isa.specs.DecodeLaws.{read_within}
 use Rattle.std.specs.Prelude.{Ok}
 use Rattle.isa.specs.Codec.{refusal_in}
-use Rattle.isa.specs.Shapes.{Shape, told}
+use Rattle.isa.specs.Shapes.{Shape, ok_unless}
 use Rattle.isa.specs.ShapeLaws.{operands_room, shape_err, shape_done, only, widths}
 use Rattle.isa.proofs.codec.one.Goals as goal
 use Rattle.isa.proofs.codec.one.Goals.{In_ok-operands, In_default}
@@ -27,8 +27,8 @@ arm : (c : In_ok-operands) (w : ℕ) → c.args.w ≡ w → Shape c.args.op 1 w
 arm c w e = subst (λ (v : ℕ). Shape c.args.op 1 v) e c.requires
 
 -- that the operands stand, and a number read there is within its width
-stood : (c : In_ok-operands) (w : ℕ) → c.args.w ≡ w → Ok tt ≡ told (refusal_in 1 w c.args.s.now)
-stood c w e = subst (λ (v : ℕ). Ok tt ≡ told (refusal_in 1 v c.args.s.now)) e (sym c.in_ok-operands.was ∙ c.operands.ensures.answer)
+stood : (c : In_ok-operands) (w : ℕ) → c.args.w ≡ w → Ok tt ≡ ok_unless (refusal_in 1 w c.args.s.now)
+stood c w e = subst (λ (v : ℕ). Ok tt ≡ ok_unless (refusal_in 1 v c.args.s.now)) e (sym c.in_ok-operands.was ∙ c.operands.ensures.answer)
 
 within : (c : In_ok-operands) (w v : ℕ) → c.args.w ≡ w → v ≡ num (take w (drop 1 c.args.s.now)) → v < 256 ^ w
 within c w v e k = read_within c.args.s.now 1 w v (operands_room 1 w c.args.s.now (stood c w e)) (λ j. (c.type_inv.s j).fits) k

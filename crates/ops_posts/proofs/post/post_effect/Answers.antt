@@ -101,7 +101,7 @@ returns-then-posted-gt1048576 c =
     (pay_comes c.pay.ensures c.in-Some-pay.is (total_over (effect_at (goal.at-returns-then-posted-gt1048576 c).In-Some) _ _ c.if-posted-gt1048576.true)))
 
 pub price-price-requires : goal.price-price-requires
-price-price-requires c = rw (moved_is (goal.at-price-price-requires c).After-struct_known-1) ((c.requires.0, c.requires.3, small (goal.at-price-price-requires c).In-Some))
+price-price-requires c = (c.requires.3, small (goal.at-price-price-requires c).In-Some)
 
 pub returns-in_default-pay-2 : goal.returns-in_default-pay-2
 returns-in_default-pay-2 c =

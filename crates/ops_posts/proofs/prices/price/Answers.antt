@@ -10,9 +10,9 @@ returns-then-kind-eq0 c =
 
 pub overflow_add-result-2 : goal.overflow_add-result-2
 overflow_add-result-2 c =
-    omega (arith, event_small c.args.run.events _ c.event_price.ensures, c.mint_price-mint.ensures.0)
+    omega (arith, event_small c.args.events _ c.event_price.ensures, c.mint_price-mint.ensures.0)
 
 pub returns : goal.returns
 returns c =
     let a = c.args in
-    λ es sm b q. event_sum a.kind a.word a.bytes.now es _ a.run.events _ (omega arith) (c.mint_price-mint.ensures.1 es sm b) c.event_price.ensures q
+    λ es sm b q. event_sum a.kind a.word a.bytes.now es _ a.events _ (omega arith) (c.mint_price-mint.ensures.1 es sm b) c.event_price.ensures q

@@ -78,7 +78,7 @@ only f n w p h o e k =
     (tests_where (λ (o : OpCode). both (shaped n w o) (f o)) (λ (o : OpCode). eqb (byte_of o) (byte_of p)) h o
     (rw (eq-eqb (regs_of o) n e.0, eq-eqb (wide_of o) w e.1, k))))
 
--- after n registers a number has k bytes where its width is None of Some
+-- after n registers a number has k bytes where its width is none of some
 pub widths : (ks : List ℕ) (k n w : ℕ) →
     all_of (λ (o : OpCode). pick (eqb (regs_of o) n) (either (eqb (wide_of o) k) (has_key ks (wide_of o))) true) opcodes ≡ true →
     (o : OpCode) → Shape o n w → (OneOf ks w → ⊥) → w ≡ k

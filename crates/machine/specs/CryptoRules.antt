@@ -17,7 +17,7 @@ use Rattle.machine.specs.declared.action.Check.TheVariants.{VerifyMl, VerifySlh,
 abbrev pub replied : Reply → Machine → Machine
 replied r m = memory_to (reg_to m r.register r.value) (written_at m.memory r.offset (take r.length r.bytes))
 
--- replies are used in order (47 when None is left); a fault row gives its fault and changes nothing
+-- replies are used in order (47 when none is left); a fault row gives its fault and changes nothing
 abbrev pub asking_of : List Reply → Machine → (Machine → Rule) → Rule
 asking_of [] m then = stop 47 m
 asking_of (r ∷ rs) m then = pass r.outcome (then (replied r (replies_to m rs)))

@@ -16,7 +16,7 @@ fn put_row(t: &mut [u8], m: usize, row: &[u8]) -> usize
     requires { Table 40 m t.old × (length row.now ≡ 40) × ((m + 1) * 40 ≤ length t.old) }
     ensures { RowPut (row_in 40 row.now) m t.old t.new result }
 {
-    tables::store::insert::<40>(t, m, row.as_array().unwrap()).unwrap_or(m)
+    tables::store::insert(t, m, row).unwrap_or(m)
 }
 
 // Puts rows into the first m rows, which have room for them; how many there are then.

@@ -27,7 +27,7 @@ module _ (i : Instr) (r : Run) (regs : List ℕ) (o : Result Outcome Fault) (h :
       rw (← g) (pass_on refl (sets_next d v l refl so))
 
   pub operate_wide : (lo hi : ℕ) (w : Wide) → w.lo < 2 ^ 64 → o ≡ Ok (outcome.PutWide lo hi w)
-      → Operates i r regs (record { run = r; put = record { d = lo; v = w.lo; e = hi; w = w.hi }; fault = None; halted = false })
+      → Operates i r regs (record { run = r; put = record { d = lo; v = w.lo; e = hi; w = w.hi }; fault = 0; halted = false })
   unfolding machine_of play
   operate_wide lo hi w f k e s a b l so =
       let g : applied (file regs) (Ok (outcome.PutWide lo hi w)) ≡ register_step i (file regs) = ap (applied (file regs)) (sym k) ∙ h in

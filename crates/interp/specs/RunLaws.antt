@@ -121,17 +121,17 @@ module _ {p : GivenParts} {r₀ : Run} {b₀ : Bufs} {r : Run} {f : RegFile} {b 
       unfolding step_of rule_of machine_of
       came e g = (st e (d + price_of (form_of i).op) g.suits (x.going e g).regs (at e g).1).turned
 
-      pub loop_faults : (n : Fault) → t.fault ≡ Some n → (y : Run) → Runs p r₀ b₀ (record { end = fault_refusal n; fetches = q.fetches; run = y; file = f }) a
+      pub loop_faults : (t.fault ≡ 0 → ⊥) → (y : Run) → Runs p r₀ b₀ (record { end = refusal t.fault 0; fetches = q.fetches; run = y; file = f }) a
       unfolding end_of
-      loop_faults n h y e g = go (step_of e i (machine_of p.replies q f b)) (at e g).0 (came e g)
+      loop_faults h y e g = go (step_of e i (machine_of p.replies q f b)) (at e g).0 (came e g)
         where
           go : (z : Step) → turn_of e (machine_of p.replies r f b) ≡ z → Came e z
-              → EndsAs e p.replies (run_of (turns_of e r₀) e (machine_of p.replies r₀ cleared b₀)) (record { end = fault_refusal n; fetches = q.fetches; run = y; file = f }) a
-          go (next m) z c = let y = c.0 in absurd (let o : ◌≡◌ {A = ℕ} 0 1 = cc in omega arith)
-          go (halt m) z c = let y = c.0 in absurd (let o : ◌≡◌ {A = ℕ} 0 1 = cc in omega arith)
-          go (fault w) z c = let k = rw h at c in rw (one_turn e g (fault w) z) (sym k.0, k.1, (at e g).2)
+              → EndsAs e p.replies (run_of (turns_of e r₀) e (machine_of p.replies r₀ cleared b₀)) (record { end = refusal t.fault 0; fetches = q.fetches; run = y; file = f }) a
+          go (next m) z c = absurd (h c.0)
+          go (halt m) z c = absurd (h c.0)
+          go (fault w) z c = rw (one_turn e g (fault w) z) (sym c.0, rw c.0 c.1, (at e g).2)
 
-      pub loop_halts : t.fault ≡ None → t.halted ≡ true → {w : RegFile} → w ≡ puts t.put f → Runs p r₀ b₀ (record { end = refusal 0 0; fetches = t.run.fetches; run = t.run; file = w }) a
+      pub loop_halts : t.fault ≡ 0 → t.halted ≡ true → {w : RegFile} → w ≡ puts t.put f → Runs p r₀ b₀ (record { end = refusal 0 0; fetches = t.run.fetches; run = t.run; file = w }) a
       unfolding machine_of end_of
       loop_halts h k {w} u e g = go (step_of e i (machine_of p.replies q f b)) (at e g).0 (came e g)
         where
@@ -147,7 +147,7 @@ module _ {p : GivenParts} {r₀ : Run} {b₀ : Bufs} {r : Run} {f : RegFile} {b 
                 is = rw u l.is;
                 sound = lower e p.replies (d + price_of (form_of i).op) 0 t.run a l.sound (omega arith);
               })
-          go (fault y) z c = absurd (rw h at c)
+          go (fault y) z c = absurd (omega (arith, c.1, h))
 
       -- on to the next turn
       record Went (e : Env) : Type 0 where
@@ -158,7 +158,7 @@ module _ {p : GivenParts} {r₀ : Run} {b₀ : Bufs} {r : Run} {f : RegFile} {b 
         costs : 1 ≤ price_of (form_of i).op
         counts : t.run.fetches ≡ suc r.fetches
 
-      went : t.fault ≡ None → t.halted ≡ false → (e : Env) → Begun e p r₀ b₀ → Went e
+      went : t.fault ≡ 0 → t.halted ≡ false → (e : Env) → Begun e p r₀ b₀ → Went e
       unfolding machine_of step_of
       went h k e g =
           go (step_of e i (machine_of p.replies q f b)) refl (at e g).0 (came e g) (keeps e.limit q.meter.used q.fetches (rule_of e i (machine_of p.replies q f b)))
@@ -176,9 +176,9 @@ module _ {p : GivenParts} {r₀ : Run} {b₀ : Bufs} {r : Run} {f : RegFile} {b 
                 counts = ap (λ (o : Machine). o.fetches) l.is ∙ ap (λ (o : Machine). o.fetches) n.is ∙ (at e g).2;
               }
           go (halt m) y z c n = let o = c.1 in absurd (let w : ◌≡◌ {A = ℕ} 0 1 = cc in omega arith)
-          go (fault o) y z c n = absurd (rw h at c)
+          go (fault o) y z c n = absurd (omega (arith, c.1, h))
 
-      pub loop_goes : t.fault ≡ None → t.halted ≡ false → {w : RegFile} → w ≡ puts t.put f → Looping p r₀ b₀ t.run w a
+      pub loop_goes : t.fault ≡ 0 → t.halted ≡ false → {w : RegFile} → w ≡ puts t.put f → Looping p r₀ b₀ t.run w a
       unfolding d end_of
       loop_goes h k u = rw u (record {
         going = λ e g.
@@ -191,7 +191,7 @@ module _ {p : GivenParts} {r₀ : Run} {b₀ : Bufs} {r : Run} {f : RegFile} {b 
             };
       })
 
-      pub loop_shrinks : Starts p r₀ b₀ → t.fault ≡ None → t.halted ≡ false →
+      pub loop_shrinks : Starts p r₀ b₀ → t.fault ≡ 0 → t.halted ≡ false →
           suc (r₀.meter.limit - r₀.meter.used) - t.run.fetches < suc (r₀.meter.limit - r₀.meter.used) - r.fetches
       loop_shrinks s h k =
           let o = went h k s.env s.begun in

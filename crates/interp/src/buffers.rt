@@ -5,13 +5,17 @@ ghost use Rattle.interp.specs.Held.{held_with, Kept};
 
 use crate::work::Work;
 
-// The preload over memory from its start, as far as memory reaches.
+// The preload over memory from its start, as far as memory reaches. By `copy_in`, as what is copied in there: no call of memmove.
 pub fn preload(memory: &mut [u8], preload: &[u8])
     ensures { memory.new ≡ take (length memory.old) preload.now ++ drop (length preload.now)
         memory.old }
 {
-    let n = preload.len().min(memory.len());
-    memory[..n].copy_from_slice(&preload[..n]);
+    let n = memory.len();
+    if preload.len() <= n {
+        words::bytes::copy_in(memory, 0, preload);
+    } else {
+        words::bytes::copy_in(memory, 0, &preload[..n]);
+    }
 }
 
 // All that a run leaves zero whatever its end: memory, stack, map, and the four tables that are not handed on.

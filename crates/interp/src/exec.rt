@@ -51,9 +51,9 @@ pub(crate) fn exec(start: Run, program: Program, work: &mut Work) -> Ended
             Ok(q) => {
                 let i = crate::fetch::instruction(d);
                 let t = crate::step::step(i, q, &file.r, program, work);
-                if let Some(fault) = t.fault {
+                if t.fault != 0 {
                     return Ended {
-                        end: Refusal::from(fault),
+                        end: Refusal::numbered(t.fault),
                         fetches: q.fetches,
                         run: q,
                         file,

@@ -1,5 +1,5 @@
 // Register operations as turns.
-ghost use Rattle.std.specs.Prelude.{◌≡◌, false, None};
+ghost use Rattle.std.specs.Prelude.{◌≡◌, false};
 ghost use Rattle.interp.specs.Operated.{Operates};
 
 use isa::instr::Instr;
@@ -10,7 +10,7 @@ use words::product::Wide;
 
 // Goes on, with two words put into two registers, the low one first.
 fn set_wide(run: Run, lo: u8, hi: u8, w: Wide) -> Turn
-    ensures { result ≡ record { run = run; put = record { d = lo; v = w.lo; e = hi; w = w.hi }; fault = None; halted = false } }
+    ensures { result ≡ record { run = run; put = record { d = lo; v = w.lo; e = hi; w = w.hi }; fault = 0; halted = false } }
 {
     Turn {
         run,
@@ -20,7 +20,7 @@ fn set_wide(run: Run, lo: u8, hi: u8, w: Wide) -> Turn
             e: hi,
             w: w.hi,
         },
-        fault: None,
+        fault: 0,
         halted: false,
     }
 }

@@ -1,14 +1,14 @@
 -- What the proofs of decoding by shape cite. Assumes nothing.
-use Prim.Native.Nat.{ℕ, ◌+◌, ◌≤◌}
+use Prim.Native.Nat.{ℕ, ◌+◌, ◌≤◌, ◌<◌}
 use Rattle.std.proofs.Math.Path.{◌≡◌, refl, ap}
 use Rattle.std.proofs.Common.{sym, subst, ◌∙◌}
-use Rattle.std.specs.Prelude.{List, [], Bool, T, length, take, drop, ℕ, Option, Some, None, Result, Ok, Err, IsErrAnd}
+use Rattle.std.specs.Prelude.{List, [], Bool, T, length, take, drop, ℕ, Option, Some, None, Result, Ok, is_none}
 use Rattle.std.proofs.Math.Bool.{true, false}
 use native.Mathlib.Omega.{arith}
 use Rattle.std.proofs.Math.Dec.{leb, eqb}
 use mir.Val.{has_key}
 use types.Run.{OneOf, hit}
-use borrow.Author.Tests.{le-leb, leb-true, eq-eqb, eqb-true}
+use borrow.Author.Tests.{le-leb, lt-leb, leb-true, eq-eqb, eqb-true}
 use Rattle.words.specs.Choice.{pick, both, either}
 use Rattle.words.specs.Bytes.{num}
 use Rattle.isa.specs.declared.opcode.OpCode.{OpCode}
@@ -22,22 +22,34 @@ use Rattle.isa.specs.ComputedLaws.{from}
 use Rattle.isa.specs.FormLaws.{own_regs}
 use Rattle.isa.specs.Codec.{first_bad, refusal_in, unless, operands_of}
 use Rattle.isa.specs.DecodeLaws.{refusal_by, refusal_is}
-use Rattle.isa.specs.Shapes.{Shape, ok_unless}
+use Rattle.std.specs.Result.{result_ok}
+use Rattle.isa.specs.Shapes.{Shape, refused_by}
 
 -- ---- whether operands stand
 
-pub operands_told : (n w : ℕ) (s : List ℕ) (f : Option ℕ) (t : Bool) → first_bad (take n s) ≡ f → leb (n + w) (length s) ≡ t →
-    ok_unless (refusal_by f t) ≡ ok_unless (refusal_in n w s)
-operands_told n w s f t e k = rw (refusal_is n w s, e, k)
-
-none_told : (x : Option DecodeError) → Ok tt ≡ ok_unless x → x ≡ None
-none_told None e = refl
-none_told (Some x) e = absurd (let z : ◌≡◌ {A = ℕ} 0 1 = cc in omega arith)
-
-pub operands_room : (n w : ℕ) (s : List ℕ) → Ok tt ≡ ok_unless (refusal_in n w s) → n + w ≤ length s
-operands_room n w s h = by (first_bad (take n s)) (leb (n + w) (length s)) refl (sym (none_told (refusal_in n w s) h) ∙ refusal_is n w s)
+pub stands_not : (n w : ℕ) (s : List ℕ) → length s < n + w → is_none (refusal_in n w s) ≡ false
+stands_not n w s h = rw (refusal_is n w s, lt-leb (n + w) (length s) h) (by (first_bad (take n s)))
   where
-    by : (f : Option ℕ) (t : Bool) → leb (n + w) (length s) ≡ t → None ≡ refusal_by f t → n + w ≤ length s
+    by : (f : Option ℕ) → is_none (refusal_by f false) ≡ false
+    by (Some b) = refl
+    by None = refl
+
+-- with room for all, a register of 16 or more decides
+pub stands_all : (n w : ℕ) (s : List ℕ) → n + w ≤ length s → is_none (refusal_in n w s) ≡ is_none (first_bad (take n s))
+stands_all n w s h = rw (refusal_is n w s, le-leb (n + w) (length s) h) (by (first_bad (take n s)))
+  where
+    by : (f : Option ℕ) → is_none (refusal_by f true) ≡ is_none f
+    by (Some b) = refl
+    by None = refl
+
+none_is : (x : Option DecodeError) → is_none x ≡ true → x ≡ None
+none_is None e = refl
+none_is (Some x) e = absurd (let z : ◌≡◌ {A = ℕ} 0 1 = cc in omega arith)
+
+pub stands_room : (n w : ℕ) (s : List ℕ) → is_none (refusal_in n w s) ≡ true → n + w ≤ length s
+stands_room n w s h = by (first_bad (take n s)) (leb (n + w) (length s)) refl (rw (refusal_is n w s) at h)
+  where
+    by : (f : Option ℕ) (t : Bool) → leb (n + w) (length s) ≡ t → is_none (refusal_by f t) ≡ true → n + w ≤ length s
     by f true e k = leb-true (n + w) (length s) e
     by (Some b) false e k = absurd (let z : ◌≡◌ {A = ℕ} 0 1 = cc in omega arith)
     by None false e k = absurd (let z : ◌≡◌ {A = ℕ} 0 1 = cc in omega arith)
@@ -45,24 +57,37 @@ operands_room n w s h = by (first_bad (take n s)) (leb (n + w) (length s)) refl 
 -- ---- what the operands of an opcode of a shape say
 
 module _ (o : OpCode) (s : List ℕ) (n w : ℕ) (h : Shape o n w) where
-  pub shape_refused : (e : DecodeError) → Err e ≡ ok_unless (refusal_in n w s) → Err e ≡ operands_of o s
+  pub shape_refused : is_none (refusal_in n w s) ≡ false → refused_by (first_bad (take n s)) ≡ operands_of o s
   unfolding operands_of unless
-  shape_refused e k = rw (h.0, h.1) (by (refusal_in n w s) _ k)
+  shape_refused k = rw (h.0, h.1, refusal_is n w s) (by (first_bad (take n s)) (leb (n + w) (length s)) _ (rw (refusal_is n w s) at k))
     where
-      by : (x : Option DecodeError) (d : Result (Instr × ℕ) DecodeError) → Err e ≡ ok_unless x → Err e ≡ unless x d
-      by None d k = absurd (let z : ◌≡◌ {A = ℕ} 0 1 = cc in omega arith)
-      by (Some x) d k = cc
+      by : (f : Option ℕ) (t : Bool) (d : Result (Instr × ℕ) DecodeError) → is_none (refusal_by f t) ≡ false → refused_by f ≡ unless (refusal_by f t) d
+      by (Some b) t d e = refl
+      by None true d e = absurd (let z : ◌≡◌ {A = ℕ} 0 1 = cc in omega arith)
+      by None false d e = refl
 
-  -- the same where `?` hands the refusal on
-  pub shape_err : (r : Result (Instr × ℕ) DecodeError) (e : DecodeError) → IsErrAnd r (λ y. y ≡ e) → Err e ≡ ok_unless (refusal_in n w s) → r ≡ operands_of o s
-  shape_err (Ok x) e q k = absurd q
-  shape_err (Err y) e q k = rw q (shape_refused e k)
-
-  pub shape_done : Ok tt ≡ ok_unless (refusal_in n w s) → (i : Instr) → i ≡ instr_of o (from 0 n s) (num (take w (drop n s))) → Ok (i, 1 + n + w) ≡ operands_of o s
+  pub shape_done : is_none (refusal_in n w s) ≡ true → (i : Instr) → i ≡ instr_of o (from 0 n s) (num (take w (drop n s))) → Ok (i, 1 + n + w) ≡ operands_of o s
   unfolding operands_of unless
   shape_done k i e =
       let own : instr_of o (from 0 n s) (num (take w (drop n s))) ≡ instr_of o s (num (take w (drop n s))) = rw h.0 at (own_regs o s (num (take w (drop n s)))) in
-      rw (h.0, h.1, none_told (refusal_in n w s) k, e ∙ own)
+      rw (h.0, h.1, none_is (refusal_in n w s) k, e ∙ own)
+
+  -- the same as shapes tell it, which leave the reason to decode
+  pub shape_none : is_none (refusal_in n w s) ≡ false → None ≡ result_ok (operands_of o s)
+  shape_none k = by (first_bad (take n s)) ∙ ap result_ok (shape_refused k)
+    where
+      by : (f : Option ℕ) → None ≡ result_ok (refused_by f)
+      by (Some b) = refl
+      by None = refl
+
+-- what a shape leaves is refused
+pub refused_told : (o : OpCode) (s : List ℕ) → None ≡ result_ok (operands_of o s) → refused_by (first_bad (take (regs_of o) s)) ≡ operands_of o s
+unfolding operands_of unless
+refused_told o s h = shape_refused o s (regs_of o) (wide_of o) (refl, refl) (by (refusal_in (regs_of o) (wide_of o) s) _ h)
+  where
+    by : (x : Option DecodeError) (d : Instr × ℕ) → None ≡ result_ok (unless x (Ok d)) → is_none x ≡ false
+    by None d e = absurd (let z : ◌≡◌ {A = ℕ} 0 1 = cc in omega arith)
+    by (Some x) d e = refl
 
 -- ---- shapes, computed over the table
 

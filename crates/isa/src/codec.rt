@@ -1,10 +1,11 @@
 // Reading an instruction from bytes, and writing it as bytes.
-ghost use Rattle.std.specs.Prelude.{OnOk, ◌≡◌, ◌∷◌, ◌++◌, ◌+◌, ◌≤◌, length, take, drop, is_none};
+ghost use Rattle.std.specs.Prelude.{◌≡◌, ◌∷◌, ◌++◌, ◌+◌, ◌≤◌, length, take, drop, is_none};
 ghost use Rattle.words.specs.Bytes.{be_bytes};
 ghost use Rattle.isa.specs.Forms.{form_of};
 ghost use Rattle.isa.specs.Codec.{first_bad, refusal_in, operands_of, decode_at, encoded_of, output_of};
 ghost use Rattle.isa.specs.Reads.{byte_read, reg_read};
-ghost use Rattle.isa.specs.Shapes.{Shape, ok_unless};
+ghost use Rattle.std.specs.Result.{result_ok};
+ghost use Rattle.isa.specs.Shapes.{Shape, refused_by};
 ghost use Rattle.isa.specs.Answers.{decode_error, encode_error};
 
 use super::instr::Instr;
@@ -107,52 +108,63 @@ fn first_bad(s: &[u8]) -> Option<u8>
     None
 }
 
-// Whether n registers and w bytes of a number stand at the start of s; if not, the first bad register of those that stand, or
-// else that bytes are missing.
-fn operands(s: &[u8], n: usize, w: usize) -> Result<(), DecodeError>
+// Whether n registers and w bytes of a number stand at the start of s. The length is tested first, so that n registers are
+// walked, as many as each call says.
+fn stands(s: &[u8], n: usize, w: usize) -> bool
     requires { n + w ≤ 9 }
-    ensures answer { result ≡ ok_unless (refusal_in n w s.now) }
-    ensures room { OnOk result (n + w ≤ length s.now) }
+    ensures { result ≡ is_none (refusal_in n w s.now) }
 {
-    if let Some(b) = first_bad(&s[..n.min(s.len())]) {
-        return Err(DecodeError::BadRegister(b));
-    }
     if s.len() < n + w {
-        return Err(DecodeError::Truncated);
+        return false;
     }
-    Ok(())
+    first_bad(&s[..n]).is_none()
 }
 
-// What the bytes after an opcode say, by its shape: no register, and w bytes of a number.
-fn none(op: OpCode, s: &[u8], w: usize) -> Result<(Instr, usize), DecodeError>
+// Why they do not: the first bad register of those that stand, or else that bytes are missing. Told as decode's own answer, which
+// `?` would put together once more for every instruction.
+fn refused(s: &[u8], n: usize) -> Result<(Instr, usize), DecodeError>
+    ensures { result ≡ refused_by (first_bad (take n s.now)) }
+{
+    match first_bad(&s[..n.min(s.len())]) {
+        Some(b) => Err(DecodeError::BadRegister(b)),
+        None => Err(DecodeError::Truncated),
+    }
+}
+
+// What the bytes after an opcode say, by its shape, if they stand: no register, and w bytes of a number.
+fn none(op: OpCode, s: &[u8], w: usize) -> Option<(Instr, usize)>
     requires { Shape op 0 w }
-    ensures { result ≡ operands_of op s.now }
+    ensures { result ≡ result_ok (operands_of op s.now) }
 {
     if w == 0 {
-        return Ok((super::instr::plain(op), 1));
+        return Some((super::instr::plain(op), 1));
     }
-    operands(s, 0, 4)?;
-    Ok((super::instr::jump(op, words::bytes::read(s, 0, 4)), 5))
+    if !stands(s, 0, 4) {
+        return None;
+    }
+    Some((super::instr::jump(op, words::bytes::read(s, 0, 4)), 5))
 }
 
 // One register, and w bytes of a number.
-fn one(op: OpCode, s: &[u8], w: usize) -> Result<(Instr, usize), DecodeError>
+fn one(op: OpCode, s: &[u8], w: usize) -> Option<(Instr, usize)>
     requires { Shape op 1 w }
-    ensures { result ≡ operands_of op s.now }
+    ensures { result ≡ result_ok (operands_of op s.now) }
 {
-    operands(s, 1, w)?;
+    if !stands(s, 1, w) {
+        return None;
+    }
     let r0 = s[0];
     match w {
-        0 => Ok((super::instr::with_one(op, r0), 2)),
-        2 => Ok((
+        0 => Some((super::instr::with_one(op, r0), 2)),
+        2 => Some((
             Instr::Ldc {
                 d: r0,
                 idx: (words::bytes::read(s, 1, 2) % 65536) as u16,
             },
             4,
         )),
-        4 => Ok((super::instr::branch(op, r0, words::bytes::read(s, 1, 4)), 6)),
-        _ => Ok((
+        4 => Some((super::instr::branch(op, r0, words::bytes::read(s, 1, 4)), 6)),
+        _ => Some((
             Instr::Ldi {
                 d: r0,
                 imm: words::bytes::read(s, 1, 8),
@@ -162,34 +174,42 @@ fn one(op: OpCode, s: &[u8], w: usize) -> Result<(Instr, usize), DecodeError>
     }
 }
 
-fn two(op: OpCode, s: &[u8]) -> Result<(Instr, usize), DecodeError>
+fn two(op: OpCode, s: &[u8]) -> Option<(Instr, usize)>
     requires { Shape op 2 0 }
-    ensures { result ≡ operands_of op s.now }
+    ensures { result ≡ result_ok (operands_of op s.now) }
 {
-    operands(s, 2, 0)?;
-    Ok((super::instr::with_two(op, s[0], s[1]), 3))
+    if !stands(s, 2, 0) {
+        return None;
+    }
+    Some((super::instr::with_two(op, s[0], s[1]), 3))
 }
 
-fn three(op: OpCode, s: &[u8]) -> Result<(Instr, usize), DecodeError>
+fn three(op: OpCode, s: &[u8]) -> Option<(Instr, usize)>
     requires { Shape op 3 0 }
-    ensures { result ≡ operands_of op s.now }
+    ensures { result ≡ result_ok (operands_of op s.now) }
 {
-    operands(s, 3, 0)?;
-    Ok((super::instr::with_three(op, s[0], s[1], s[2]), 4))
+    if !stands(s, 3, 0) {
+        return None;
+    }
+    Some((super::instr::with_three(op, s[0], s[1], s[2]), 4))
 }
 
-fn six(op: OpCode, s: &[u8]) -> Result<(Instr, usize), DecodeError>
+fn six(op: OpCode, s: &[u8]) -> Option<(Instr, usize)>
     requires { Shape op 6 0 }
-    ensures { result ≡ operands_of op s.now }
+    ensures { result ≡ result_ok (operands_of op s.now) }
 {
-    operands(s, 6, 0)?;
-    Ok((
+    if !stands(s, 6, 0) {
+        return None;
+    }
+    Some((
         super::instr::with_six(op, s[0], s[1], s[2], s[3], s[4], s[5]),
         7,
     ))
 }
 
 // The instruction at a place of the code and its length, or the first refusal met.
+// Each shape's instruction is returned from its arm, and a refusal behind them all: where arms meet, or an instruction and a refusal,
+// an answer is put together byte by byte.
 pub fn decode(code: &[u8], place: usize) -> Result<(Instr, usize), DecodeError>
     ensures { result ≡ decode_at code.now place }
 {
@@ -206,12 +226,33 @@ pub fn decode(code: &[u8], place: usize) -> Result<(Instr, usize), DecodeError>
     let n = row.1;
     let w = row.2;
     match n {
-        0 => none(op, s, w),
-        1 => one(op, s, w),
-        2 => two(op, s),
-        3 => three(op, s),
-        _ => six(op, s),
+        0 => {
+            if let Some(decoded) = none(op, s, w) {
+                return Ok(decoded);
+            }
+        }
+        1 => {
+            if let Some(decoded) = one(op, s, w) {
+                return Ok(decoded);
+            }
+        }
+        2 => {
+            if let Some(decoded) = two(op, s) {
+                return Ok(decoded);
+            }
+        }
+        3 => {
+            if let Some(decoded) = three(op, s) {
+                return Ok(decoded);
+            }
+        }
+        _ => {
+            if let Some(decoded) = six(op, s) {
+                return Ok(decoded);
+            }
+        }
     }
+    refused(s, n)
 }
 
 // A byte, the first n registers and the low w bytes of a number, one after the other from the start of out.

@@ -6,6 +6,7 @@ use Prim.Native.Nat.{ℕ, zero, suc, ◌+◌, ◌<◌}
 use Rattle.std.proofs.Math.Seq.{set_out}
 use Rattle.words.specs.Choice.{pick}
 use Rattle.words.specs.Refusals.{refusal}
+use Rattle.words.specs.declared.refusal.Refusal.{Refusal}
 use Rattle.state.specs.Faults.{fault_refusal}
 use Rattle.state.specs.declared.fault.Fault.{Fault}
 use Rattle.state.specs.Regs.{set_reg}
@@ -58,7 +59,9 @@ module _ {e : Env} {s : List ℕ} {d : ℕ} {f : RegFile} {u n : ℕ} {r : Rule}
     pub pass_stops : (g : Fault) (k : ℕ) → fault_refusal g ≡ refusal k 0 → (k ≡ 0 → ⊥) → Played e s d f u n (pass k r) (stops o g) b
     unfolding play
     pass_stops g zero q h = absurd (h refl)
-    pass_stops g (suc k) q h = record { turned = (sym q, omega arith) }
+    pass_stops g (suc k) q h =
+        let z : (fault_refusal g).number ≡ suc k = ap (λ (x : Refusal). x.number) q in
+        record { turned = (ap (λ (i : ℕ). refusal i 0) (sym z), omega (arith, z)) }
 
     pub need_stops : {ok : Bool} (g : Fault) (k : ℕ) → fault_refusal g ≡ refusal k 0 → 0 < k → ok ≡ false → Played e s d f u n (need ok k r) (stops o g) b
     need_stops g k q l h = rw h (pass_stops g k q (λ z. omega arith))

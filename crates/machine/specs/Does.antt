@@ -1,7 +1,7 @@
 -- What the code's answers say of a rule: one claim for every group of instructions.
 use Rattle.std.specs.Prelude.{◌≡◌, true, false, List, ℕ, ◌+◌, ◌<◌, leb, length, Option, Some, None}
 use Rattle.words.specs.Choice.{pick}
-use Rattle.words.specs.declared.refusal.Refusal.{Refusal}
+use Rattle.words.specs.Refusals.{refusal}
 use Rattle.state.specs.Faults.{fault_refusal}
 use Rattle.state.specs.declared.fault.Fault.{Fault}
 use Rattle.state.specs.Regs.{set_reg}
@@ -23,16 +23,16 @@ paid_by r p = pick (leb (r.meter.used + p) r.meter.limit) (Some (with_used r (r.
 -- ---- turns
 
 abbrev pub sets : Run → (register value : ℕ) → Turn
-sets r d v = record { run = r; put = record { d = d; v = v; e = 255; w = 0 }; fault = None; halted = false }
+sets r d v = record { run = r; put = record { d = d; v = v; e = 255; w = 0 }; fault = 0; halted = false }
 
 abbrev pub goes : Run → Turn
 goes r = sets r 255 0
 
 abbrev pub stops : Run → Fault → Turn
-stops r n = record { run = r; put = record { d = 255; v = 0; e = 255; w = 0 }; fault = Some n; halted = false }
+stops r n = record { run = r; put = record { d = 255; v = 0; e = 255; w = 0 }; fault = (fault_refusal n).number; halted = false }
 
 abbrev pub halts : Run → Turn
-halts r = record { run = r; put = record { d = 255; v = 0; e = 255; w = 0 }; fault = None; halted = true }
+halts r = record { run = r; put = record { d = 255; v = 0; e = 255; w = 0 }; fault = 0; halted = true }
 
 -- the registers after a turn
 abbrev pub puts : Put → RegFile → RegFile
@@ -43,16 +43,11 @@ pub record Left (e : Env) (s : List ℕ) (d : ℕ) (t : Turn) (f : RegFile) (b :
   pub is : machine_of s t.run (puts t.put f) b ≡ m
   pub sound : Sound e s d t.run b
 
--- the refusal that a turn's fault tells, which has a number
-abbrev pub TellsFault : Option Fault → Refusal → Type 0
-TellsFault None x = ⊥
-TellsFault (Some n) x = (x ≡ fault_refusal n) × (0 < x.number)
-
 -- t and the bytes b are what a step from registers f comes to
 abbrev pub Turned : Env → List ℕ → ℕ → RegFile → Step → Turn → Bufs → Type 0
-Turned e s d f (next m) t b = (t.fault ≡ None) × (t.halted ≡ false) × Left e s d t f b m
-Turned e s d f (halt m) t b = (t.fault ≡ None) × (t.halted ≡ true) × Left e s d t f b m
-Turned e s d f (fault x) t b = TellsFault t.fault x
+Turned e s d f (next m) t b = (t.fault ≡ 0) × (t.halted ≡ false) × Left e s d t f b m
+Turned e s d f (halt m) t b = (t.fault ≡ 0) × (t.halted ≡ true) × Left e s d t f b m
+Turned e s d f (fault x) t b = (x ≡ refusal t.fault 0) × (0 < t.fault)
 
 -- the same of a rule, played under the limit with so much used and fetched
 pub record Played (e : Env) (s : List ℕ) (d : ℕ) (f : RegFile) (used fetches : ℕ) (r : Rule) (t : Turn) (b : Bufs) : Type 0 where

@@ -4,6 +4,7 @@ ghost use Rattle.machine.specs.Does.{goes, sets, stops, halts};
 
 use crate::run::Run;
 use state::fault::Fault;
+use words::refusal::Refusal;
 
 // Two words for two registers, the first put first; a register past the last is none.
 #[derive(Clone, Copy)]
@@ -14,13 +15,13 @@ pub struct Put {
     pub w: u64,
 }
 
-// The run after a turn and what goes into its registers; its fault, if it has one; whether it halts.
-// No Result: the run goes back with a fault too.
+// The run after a turn and what goes into its registers; its fault's number, or 0; whether it halts.
+// A number: an Option of `Fault` is a few bytes in one word, and a test of one of them after each instruction costs up to a fifth of a run.
 #[derive(Clone, Copy)]
 pub struct Turn {
     pub run: Run,
     pub put: Put,
-    pub fault: Option<Fault>,
+    pub fault: u64,
     pub halted: bool,
 }
 
@@ -31,7 +32,7 @@ pub fn set(run: Run, d: u8, v: u64) -> Turn
     Turn {
         run: run.by_fields(),
         put: Put { d, v, e: 255, w: 0 },
-        fault: None,
+        fault: 0,
         halted: false,
     }
 }
@@ -48,7 +49,7 @@ pub fn stop(run: Run, fault: Fault) -> Turn
     ensures { result ≡ stops run fault }
 {
     let mut t = go_on(run);
-    t.fault = Some(fault);
+    t.fault = Refusal::from(fault).number;
     t
 }
 

@@ -13,4 +13,4 @@ GoodLists c readable writable = (changes : List ℕ) × (fetched : List ℕ) × 
 
 -- a turn that goes on with what is put
 abbrev pub goes_with : Run → Put → Turn
-goes_with r p = record { run = r; put = p; fault = None; halted = false }
+goes_with r p = record { run = r; put = p; fault = 0; halted = false }

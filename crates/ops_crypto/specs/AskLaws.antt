@@ -19,7 +19,7 @@ use Rattle.machine.specs.Rules.{Rule, next, pass, play}
 use Rattle.machine.specs.CryptoRules.{replied, asking_of, asking}
 use Rattle.machine.specs.Lent.{Bufs, bufs, replies_in, replies_left}
 use Rattle.machine.specs.Sound.{machine_of, Sound}
-use Rattle.machine.specs.Does.{sets, stops, puts, TellsFault, Played, Does}
+use Rattle.machine.specs.Does.{sets, stops, puts, Played, Does}
 use Rattle.machine.specs.RunParts.{with_replies}
 use Rattle.machine.specs.SoundLaws.{memory_sound, replies_sound}
 use Rattle.machine.proofs.TurnLaws.{pass_on, pass_stops, sets_next}
@@ -90,29 +90,24 @@ module _ (e : Env) (s : List ℕ) (d : ℕ) (f : RegFile) (r : Run) (mem st : Li
 
 -- ---- what follows a reply
 
--- no fault tells no refusal
-none_tells : (n : Option Fault) (x : Refusal) → is_some n ≡ false → TellsFault n x → ⊥
-none_tells None x z h = h
-none_tells (Some n) x z h = let w : ◌≡◌ {A = ℕ} 0 1 = cc in omega arith
-
 module _ (e : Env) (s : List ℕ) (d : ℕ) (f : RegFile) (m : Machine) (u n : ℕ) (t : Turn) (b : Bufs) (h : Played e s d f u n (asking (bare m) next) t b) (k : Machine → Rule) where
   -- the machine that a reply leaves
   abbrev told : Reply → List Reply → Machine
   told x rs = replied x (replies_to (bare m) rs)
 
-  pub asked_stops : is_some t.fault ≡ true → Played e s d f u n (asking (bare m) k) t b
+  pub asked_stops : (t.fault ≡ 0 → ⊥) → Played e s d f u n (asking (bare m) k) t b
   unfolding play
   asked_stops z = go m.replies h
     where
       row : (x : Reply) (rs : List Reply) (o : ℕ) → Played e s d f u n (pass o (next (told x rs))) t b → Played e s d f u n (pass o (k (told x rs))) t b
-      row x rs zero y = let k = y.turned.0 in absurd (let w : ◌≡◌ {A = ℕ} 0 1 = cc in omega arith)
+      row x rs zero y = absurd (z y.turned.0)
       row x rs (suc o) y = record { turned = y.turned }
 
       go : (l : List Reply) → Played e s d f u n (asking_of l (bare m) next) t b → Played e s d f u n (asking_of l (bare m) k) t b
       go [] y = record { turned = y.turned }
       go (x ∷ rs) y = row x rs x.outcome y
 
-  pub asked_on : (v : Turn) (a : Bufs) → is_some t.fault ≡ false →
+  pub asked_on : (v : Turn) (a : Bufs) → t.fault ≡ 0 →
       (Sound e s d t.run b → Played e s d f t.run.meter.used t.run.fetches (k (bare (machine_of s t.run (puts t.put f) b))) v a) →
       Played e s d f u n (asking (bare m) k) v a
   unfolding play machine_of
@@ -122,8 +117,8 @@ module _ (e : Env) (s : List ℕ) (d : ℕ) (f : RegFile) (m : Machine) (u n : �
       row x rs zero y =
           let left = y.turned.2 in
           record { turned = (subst (λ (q : Machine). Played e s d f q.used q.fetches (k (bare q)) v a) left.is (on left.sound)).turned }
-      row x rs (suc o) y = absurd (none_tells t.fault _ z y.turned)
+      row x rs (suc o) y = absurd (omega (arith, y.turned.1, z))
 
       go : (l : List Reply) → Played e s d f u n (asking_of l (bare m) next) t b → Played e s d f u n (asking_of l (bare m) k) v a
-      go [] y = absurd (none_tells t.fault _ z y.turned)
+      go [] y = absurd (omega (arith, y.turned.1, z))
       go (x ∷ rs) y = row x rs x.outcome y

@@ -42,7 +42,7 @@ pub fn hash(
         return machine::turn::stop(run, Fault::OutOfMeter);
     };
     let t = crate::ask::ask(rest, replies, memory);
-    if t.fault.is_some() {
+    if t.fault != 0 {
         return t;
     }
     crate::taint::taint(

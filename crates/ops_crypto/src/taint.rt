@@ -30,7 +30,7 @@ fn go_with(run: Run, put: Put) -> Turn
     Turn {
         run,
         put,
-        fault: None,
+        fault: 0,
         halted: false,
     }
 }

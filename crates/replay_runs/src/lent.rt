@@ -33,7 +33,8 @@ pub fn front<T: Copy>(t: &mut [T], n: usize, filler: T) -> &mut [T]
 pub fn repeat(t: &mut [u8], s: &[u8], times: usize) -> usize {
     let mut at = 0;
     for _ in 0..times {
-        if t.len() - at < s.len() {
+        // Nothing, however many times over, is nothing.
+        if s.is_empty() || t.len() - at < s.len() {
             break;
         }
         t[at..at + s.len()].copy_from_slice(s);

@@ -1,4 +1,4 @@
--- Document 01's number for each case of the answers of memory and stack (Numbers returned); registers answer theirs as they are.
+-- Document 01's number for each case of the answers of memory and stack (Numbers returned); a register operation's is its fault's (Faults).
 use Rattle.std.specs.Prelude.{ℕ, Bool, Option, Some, None}
 use Rattle.words.specs.Choice.{pick}
 

@@ -52,12 +52,14 @@ fn is_zero(w: Wide) -> bool
     w.hi == 0 && w.lo == 0
 }
 
-// An operation on two registers.
+// An operation on two registers. A match: by `?` the value went through memory once more.
 fn two(r: &[u64], op: Op, d: u8, a: u8, b: u8) -> Result<Outcome, Fault>
     ensures { applied (file r.now) result ≡ rule_two op (file r.now) d a b }
 {
-    let v = super::alu::alu(op, read(r, a), read(r, b))?;
-    Ok(Outcome::Put(d, v))
+    match super::alu::alu(op, read(r, a), read(r, b)) {
+        Ok(v) => Ok(Outcome::Put(d, v)),
+        Err(fault) => Err(fault),
+    }
 }
 
 // A division of two words by two: the Rust's six registers, by its names.

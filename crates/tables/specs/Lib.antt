@@ -11,6 +11,7 @@ pub mod OrderLaws
 pub mod SortedLaws
 pub mod LayoutLaws
 pub mod SearchLaws
+pub mod MoveLaws
 pub mod StoreLaws
 pub mod MadeLaws
 pub mod CheckLaws

@@ -1,12 +1,13 @@
 -- Rows made of a key, and of a key and a value. Assumes nothing.
-use Rattle.std.specs.Prelude.{◌≡◌, refl, List, ◌++◌, ℕ, ◌<◌, length, take, drop}
-use Rattle.std.proofs.Common.{ap, ◌∙◌, append_assoc, arith, take_all, take_at, drop_at, length-take-le}
+use Rattle.std.specs.Prelude.{◌≡◌, refl, List, ◌++◌, ℕ, ◌<◌, length, take, drop, Option}
+use Rattle.std.proofs.Common.{ap, ◌∙◌, subst, append_assoc, arith, take_all, take_at, drop_at, length-take-le}
 use Rattle.std.proofs.Math.Seq.{paste}
 use Rattle.std.proofs.lemmas.List.Edits.{length-paste}
 use Rattle.words.specs.Bytes.{num, num_from, be_bytes}
 use Rattle.words.specs.BytesLaws.{length_be_bytes}
 use Rattle.words.proofs.BytesTheorems.{read_back_all}
-use Rattle.tables.specs.Rows.{row_in}
+use Rattle.tables.specs.Rows.{Row, row_in}
+use Rattle.tables.specs.Table.{Inserted}
 use Rattle.tables.specs.RowsTheorems.{row_path}
 
 -- a key alone is a row of 32 bytes
@@ -33,3 +34,8 @@ map_made z k a b v lz lk lv pa pb =
     let te : take 8 e ≡ e = take_all 8 e (omega arith) in
     let whole : b ≡ k ++ (e ++ drop 40 a) = pb ∙ (λ i. (ta i ++ te i) ++ drop 40 a) ∙ append_assoc k e (drop 40 a) in
     ap (row_in 40) whole ∙ map_row k e (drop 40 a) lk le ∙ ap (λ (x : ℕ). record { key = num k; value = x }) (read_back_all 8 v lv)
+
+-- what was put in, by its row
+pub as_row : (w n : ℕ) (x : Row) (t u row : List ℕ) (r : Option ℕ) → length row ≡ w → row_in w row ≡ x
+    → Inserted (length row) n (row_in (length row) row) t u r → Inserted w n x t u r
+as_row w n x t u row r e p i = subst (λ (y : Row). Inserted w n y t u r) p (subst (λ (m : ℕ). Inserted m n (row_in m row) t u r) e i)

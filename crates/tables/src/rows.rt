@@ -1,7 +1,8 @@
-// Sorted rows at the front of lent bytes. A row is W bytes: a key of 32, and the value after it.
+// Sorted rows at the front of lent bytes. A row is w bytes: a key of 32, and the value after it.
 ghost use Rattle.std.specs.Prelude.{◌≡◌, ◌≤◌, length, take, is_some};
 ghost use Rattle.words.specs.Bytes.{num};
-ghost use Rattle.tables.specs.Rows.{rows, lookup, find};
+ghost use Rattle.tables.specs.Rows as listed;
+ghost use Rattle.tables.specs.Rows.{rows, lookup};
 ghost use Rattle.tables.specs.Table.{Table};
 ghost use Rattle.tables.specs.TableProps.{table_props};
 
@@ -23,31 +24,40 @@ pub fn key_of(row: &[u8]) -> &[u8; 32]
     row.first_chunk().unwrap()
 }
 
-impl<'a, const W: usize> Rows<'a, W> {
-    // Where a key stands, or would stand.
-    // A loop: `binary_search_by` goes over the elements of a slice, and a row is none.
-    pub(crate) fn find(self, key: &[u8; 32]) -> Result<usize, usize>
-        ensures { result ≡ find (num key.now) (rows W self.entry.count self.entry.bytes.now) }
-    {
-        let mut lo = 0;
-        let mut hi = self.count;
-        while lo < hi {
-            let mid = lo + (hi - lo) / 2;
-            let at = mid * W;
-            match crate::order::compare(&self.bytes[at..at + 32], key) {
-                Ordering::Less => lo = mid + 1,
-                Ordering::Equal => return Ok(mid),
-                Ordering::Greater => hi = mid,
-            }
+// Where a key stands in the first n rows of w bytes, or would stand.
+// A loop: `binary_search_by` goes over the elements of a slice, and a row is none.
+pub(crate) fn find(t: &[u8], n: usize, w: usize, key: &[u8]) -> Result<usize, usize>
+    requires { Table w n t.now × (length key.now ≡ 32) }
+    ensures { result ≡ listed.find (num key.now) (rows w n t.now) }
+{
+    let mut lo = 0;
+    let mut hi = n;
+    while lo < hi {
+        let mid = lo + (hi - lo) / 2;
+        let at = mid * w;
+        match crate::order::compare(&t[at..at + 32], key) {
+            Ordering::Less => lo = mid + 1,
+            Ordering::Equal => return Ok(mid),
+            Ordering::Greater => hi = mid,
         }
-        Err(lo)
     }
+    Err(lo)
+}
 
+// Whether a key stands in the first n rows of w bytes.
+pub fn has(t: &[u8], n: usize, w: usize, key: &[u8]) -> bool
+    requires { Table w n t.now × (length key.now ≡ 32) }
+    ensures { result ≡ is_some (lookup (num key.now) (rows w n t.now)) }
+{
+    find(t, n, w, key).is_ok()
+}
+
+impl<'a, const W: usize> Rows<'a, W> {
     // Whether a key stands there.
     pub fn has(self, key: &[u8; 32]) -> bool
         ensures { result ≡ is_some (lookup (num key.now) (rows W self.entry.count self.entry.bytes.now)) }
     {
-        self.find(key).is_ok()
+        has(self.bytes, self.count, W, key)
     }
 }
 
@@ -56,7 +66,7 @@ impl<'a> Rows<'a, 40> {
     pub fn get(self, key: &[u8; 32]) -> Option<u64>
         ensures { result ≡ lookup (num key.now) (rows 40 self.entry.count self.entry.bytes.now) }
     {
-        let i = self.find(key).ok()?;
+        let i = find(self.bytes, self.count, 40, key).ok()?;
         Some(words::bytes::read(self.bytes, i * 40 + 32, 8))
     }
 }

@@ -1,29 +1,46 @@
 // Putting a row into sorted rows, at its key's place.
 // The count stays beside the bytes that are written: a run keeps the counts of all its tables in one value (`keys::counts::Counts`).
+ghost use Rattle.std.specs.Prelude.{◌≡◌, ◌+◌, ◌-◌, ◌≤◌, length, drop};
+ghost use Rattle.std.proofs.Math.Seq.{paste};
 ghost use Rattle.words.specs.Bytes.{num};
 ghost use Rattle.tables.specs.Rows.{row_in};
 ghost use Rattle.tables.specs.Table.{Table, Inserted};
 
-use crate::rows::{Rows, key_of};
+use crate::rows::{find, key_of};
+
+// Moves the bytes from `from` up to `to` up by `by` places, the last first.
+// A loop, and no range: `copy_within`, and a walk of a range from its end, come to the C library's memmove, which the archive for
+// C would then need from outside.
+fn shift_up(t: &mut [u8], from: usize, to: usize, by: usize)
+    requires { (from ≤ to) × (to + by ≤ length t.old) }
+    ensures { t.new ≡ paste t.old (from + by) (drop from t.old) (to - from) }
+{
+    let mut i = to;
+    while from < i {
+        i -= 1;
+        let x = t[i];
+        t[i + by] = x;
+    }
+}
 
 // Puts a row into the first n rows of its width.
-pub fn insert<const W: usize>(t: &mut [u8], n: usize, row: &[u8; W]) -> Option<usize>
-    requires { Table W n t.old }
-    ensures { Inserted W n (row_in W row.now) t.old t.new result }
+pub fn insert(t: &mut [u8], n: usize, row: &[u8]) -> Option<usize>
+    requires { Table (length row.now) n t.old }
+    ensures { Inserted (length row.now) n (row_in (length row.now) row.now) t.old t.new result }
 {
-    let rows: Rows<W> = Rows { bytes: t, count: n };
-    match rows.find(key_of(row)) {
+    let w = row.len();
+    match find(t, n, w, key_of(row)) {
         Ok(i) => {
-            words::bytes::copy_in(t, i * W, row);
+            words::bytes::copy_in(t, i * w, row);
             Some(n)
         }
         Err(i) => {
-            let from = i * W;
-            let to = n * W;
-            if t.len() - to < W {
+            let from = i * w;
+            let to = n * w;
+            if t.len() - to < w {
                 return None;
             }
-            t.copy_within(from..to, from + W);
+            shift_up(t, from, to, w);
             words::bytes::copy_in(t, from, row);
             Some(n + 1)
         }

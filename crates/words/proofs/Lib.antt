@@ -3,3 +3,4 @@ mod Words
 -- laws and theorems that rest on definitions of specs/
 pub mod BytesTheorems
 pub mod NumberLaws
+mod Eight

@@ -26,17 +26,17 @@ pub step-t-requires : goal.step-t-requires
 step-t-requires c =
     step_ready c.loop-fault.invariant.rest (taken_at (goal.at-step-t-requires c).After-instruction-i) c.requires
 
-pub returns-in-Some-clause-runs : goal.returns-in-Some-clause-runs
-returns-in-Some-clause-runs c =
-    rw c.from-in-Some.ensures (loop_faults c.loop-fault.invariant.rest (taken_at (goal.at-returns-in-Some-clause-runs c).After-instruction-i) c.step-t.ensures.steps _ c.in-Some.is _)
+pub returns-then-t-ne0-clause-runs : goal.returns-then-t-ne0-clause-runs
+returns-then-t-ne0-clause-runs c =
+    rw c.numbered.ensures (loop_faults c.loop-fault.invariant.rest (taken_at (goal.at-returns-then-t-ne0-clause-runs c).After-instruction-i) c.step-t.ensures.steps c.if-t-ne0.true _)
 
 pub returns-then-t-clause-runs : goal.returns-then-t-clause-runs
 returns-then-t-clause-runs c =
-    rw c.numbered.ensures (loop_halts c.loop-fault.invariant.rest (taken_at (goal.at-returns-then-t-clause-runs c).After-instruction-i) c.step-t.ensures.steps c.in_default.is c.if-t.true c.put-file.ensures)
+    rw c.numbered-then-t.ensures (loop_halts c.loop-fault.invariant.rest (taken_at (goal.at-returns-then-t-clause-runs c).After-instruction-i) c.step-t.ensures.steps c.if-t-ne0.false c.if-t.true c.put-file.ensures)
 
 pub loop-fault-smaller : goal.loop-fault-smaller
 loop-fault-smaller c =
-    loop_shrinks c.loop-fault.invariant.rest (taken_at (goal.at-loop-fault-smaller c).After-instruction-i) c.step-t.ensures.steps c.requires c.in_default.is c.if-t.false
+    loop_shrinks c.loop-fault.invariant.rest (taken_at (goal.at-loop-fault-smaller c).After-instruction-i) c.step-t.ensures.steps c.requires c.if-t-ne0.false c.if-t.false
 
 pub loop-fault-preserved : goal.loop-fault-preserved
-loop-fault-preserved c = record { kept = search rules; rest = loop_goes c.loop-fault.invariant.rest (taken_at (goal.at-loop-fault-preserved c).After-instruction-i) c.step-t.ensures.steps c.in_default.is c.if-t.false c.put-file.ensures }
+loop-fault-preserved c = record { kept = search rules; rest = loop_goes c.loop-fault.invariant.rest (taken_at (goal.at-loop-fault-preserved c).After-instruction-i) c.step-t.ensures.steps c.if-t-ne0.false c.if-t.false c.put-file.ensures }

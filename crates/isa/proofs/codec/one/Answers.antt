@@ -14,24 +14,21 @@ use Rattle.isa.specs.TableLaws.{row_bounds}
 use Rattle.isa.specs.Forms.{instr_of}
 use Rattle.isa.specs.ToldLaws.{instr_told, cut_told}
 use Rattle.isa.specs.ComputedLaws.{from}
-use Rattle.isa.specs.DecodeLaws.{read_within}
-use Rattle.std.specs.Prelude.{Ok}
 use Rattle.isa.specs.Codec.{refusal_in}
-use Rattle.isa.specs.Shapes.{Shape, ok_unless}
-use Rattle.isa.specs.ShapeLaws.{operands_room, shape_err, shape_done, only, widths}
+use Rattle.isa.specs.DecodeLaws.{read_within}
+use Rattle.std.specs.Prelude.{is_none}
+use Rattle.std.specs.Result.{result_ok}
+use Rattle.isa.specs.Shapes.{Shape}
+use Rattle.isa.specs.ShapeLaws.{stands_room, shape_none, shape_done, only, widths}
 use Rattle.isa.proofs.codec.one.Goals as goal
-use Rattle.isa.proofs.codec.one.Goals.{In_ok-operands, In_default}
+use Rattle.isa.proofs.codec.one.Goals.{After-shared_slice_known-2-1, In_default}
 
--- in the arm of a width: the opcode's shape
-arm : (c : In_ok-operands) (w : ℕ) → c.args.w ≡ w → Shape c.args.op 1 w
-arm c w e = subst (λ (v : ℕ). Shape c.args.op 1 v) e c.requires
-
--- that the operands stand, and a number read there is within its width
-stood : (c : In_ok-operands) (w : ℕ) → c.args.w ≡ w → Ok tt ≡ ok_unless (refusal_in 1 w c.args.s.now)
-stood c w e = subst (λ (v : ℕ). Ok tt ≡ ok_unless (refusal_in 1 v c.args.s.now)) e (sym c.in_ok-operands.was ∙ c.operands.ensures.answer)
-
-within : (c : In_ok-operands) (w v : ℕ) → c.args.w ≡ w → v ≡ num (take w (drop 1 c.args.s.now)) → v < 256 ^ w
-within c w v e k = read_within c.args.s.now 1 w v (operands_room 1 w c.args.s.now (stood c w e)) (λ j. (c.type_inv.s j).fits) k
+-- in the arm of a width: the opcode's shape, and that the operands stand
+arm : (c : After-shared_slice_known-2-1) (w : ℕ) → c.args.w ≡ w →
+    Shape c.args.op 1 w × (is_none (refusal_in 1 w c.args.s.now) ≡ true)
+arm c w e =
+    subst (λ (v : ℕ). Shape c.args.op 1 v × (is_none (refusal_in 1 v c.args.s.now) ≡ true)) e
+    (c.requires, sym c.stands.ensures ∙ c.if-not-stands.false)
 
 -- the last arm's
 eight : (c : In_default) → c.args.w ≡ 8
@@ -40,49 +37,59 @@ eight c =
     let r = c.in_default.in_default-own.rest in
     widths (0 ∷ 2 ∷ 4 ∷ []) 8 1 c.args.w refl c.args.op c.requires (⊎_elim r.0.0.1 (⊎_elim r.0.1 r.1))
 
-pub operands-requires : goal.operands-requires
-operands-requires c = omega (arith, c.requires, (row_bounds c.args.op).length)
+-- a number read there is within its width
+within : (c : After-shared_slice_known-2-1) (w v : ℕ) → c.args.w ≡ w → v ≡ num (take w (drop 1 c.args.s.now)) → v < 256 ^ w
+within c w v e k =
+    let s = c.args.s.now in
+    read_within s 1 w v (stands_room 1 w s (arm c w e).1) (λ j. (c.type_inv.s j).fits) k
 
-pub returns-in_err-operands : goal.returns-in_err-operands
-returns-in_err-operands c =
-    let a = c.args in
-    shape_err a.op a.s.now 1 a.w c.requires _ _ c.from_residual.ensures.1 (sym c.in_err-operands.was ∙ c.operands.ensures.answer)
+pub stands-requires : goal.stands-requires
+stands-requires c = omega (arith, c.requires, (row_bounds c.args.op).length)
+
+pub returns-then-not-stands : goal.returns-then-not-stands
+returns-then-not-stands c =
+    shape_none c.args.op c.args.s.now 1 c.args.w c.requires (sym c.stands.ensures ∙ c.if-not-stands.true)
+
+pub bounds-s-0 : goal.bounds-s-0
+bounds-s-0 c = omega (arith, stands_room 1 c.args.w c.args.s.now (sym c.stands.ensures ∙ c.if-not-stands.false))
 
 pub returns-in-0 : goal.returns-in-0
 unfolding num num_from
 returns-in-0 c =
-    let k = (goal.at-returns-in-0 c).In_ok-operands in
-    shape_done _ _ 1 0 (arm k 0 c.in-0.is) (stood k 0 c.in-0.is) _ (c.with_one.ensures (arm k 0 c.in-0.is))
+    let h = arm (goal.at-returns-in-0 c).After-shared_slice_known-2-1 0 c.in-0.is in
+    ap result_ok (shape_done _ _ 1 0 h.0 h.1 _ (c.with_one.ensures h.0))
 
 pub returns-in-2 : goal.returns-in-2
 unfolding row_of instr_of
 returns-in-2 c =
-    let k = (goal.at-returns-in-2 c).In_ok-operands in
     let w = c.in-2.is in
-    let h = arm k 2 w in
+    let h = arm (goal.at-returns-in-2 c).After-shared_slice_known-2-1 2 w in
     let o = c.args.op in
     let r = from 0 1 c.args.s.now in
-    shape_done o _ 1 2 h (stood k 2 w) _
-    (cut_told o Ldc r _ 65536 _ (only (λ (o : OpCode). true) 1 2 Ldc refl o h refl) (within k 2 _ w c.read.ensures) refl ∙ ap (instr_of o r) c.read.ensures)
+    ap result_ok (shape_done o _ 1 2 h.0 h.1 _
+    (cut_told o Ldc r _ 65536 _ (only (λ (o : OpCode). true) 1 2 Ldc refl o h.0 refl) (within (goal.at-returns-in-2 c).After-shared_slice_known-2-1 2 _ w c.read.ensures) refl ∙ ap (instr_of o r) c.read.ensures))
 
 pub returns-in-4 : goal.returns-in-4
 returns-in-4 c =
-    let k = (goal.at-returns-in-4 c).In_ok-operands in
     let w = c.in-4.is in
-    let h = arm k 4 w in
+    let h = arm (goal.at-returns-in-4 c).After-shared_slice_known-2-1 4 w in
     let o = c.args.op in
     let e = c.read-in-4.ensures in
-    shape_done o _ 1 4 h (stood k 4 w) _ (c.branch-op.ensures h (within k 4 _ w e) ∙ ap (instr_of o (from 0 1 c.args.s.now)) e)
+    ap result_ok (shape_done o _ 1 4 h.0 h.1 _ (c.branch-op.ensures h.0 (within (goal.at-returns-in-4 c).After-shared_slice_known-2-1 4 _ w e) ∙ ap (instr_of o (from 0 1 c.args.s.now)) e))
 
 pub returns-in_default : goal.returns-in_default
 unfolding row_of instr_of
 returns-in_default c =
-    let k = (goal.at-returns-in_default c).In_ok-operands in
-    let w = eight (goal.at-returns-in_default c).In_default in
-    let h = arm k 8 w in
+    let h = arm (goal.at-returns-in_default c).After-shared_slice_known-2-1 8 (eight (goal.at-returns-in_default c).In_default) in
     let o = c.args.op in
     let r = from 0 1 c.args.s.now in
-    shape_done o _ 1 8 h (stood k 8 w) _ (instr_told o Ldi r _ _ (only (λ (o : OpCode). true) 1 8 Ldi refl o h refl) refl ∙ ap (instr_of o r) c.read-in_default.ensures)
+    ap result_ok (shape_done o _ 1 8 h.0 h.1 _ (instr_told o Ldi r _ _ (only (λ (o : OpCode). true) 1 8 Ldi refl o h.0 refl) refl ∙ ap (instr_of o r) c.read-in_default.ensures))
+
+pub read-requires : goal.read-requires
+read-requires c = (omega (arith, stands_room 1 2 _ (arm (goal.at-read-requires c).After-shared_slice_known-2-1 2 c.in-2.is).1), omega arith)
+
+pub read-requires-in-4 : goal.read-requires-in-4
+read-requires-in-4 c = (omega (arith, stands_room 1 4 _ (arm (goal.at-read-requires-in-4 c).After-shared_slice_known-2-1 4 c.in-4.is).1), omega arith)
 
 pub read-requires-in_default : goal.read-requires-in_default
-read-requires-in_default c = (omega (arith, operands_room 1 8 _ (stood (goal.at-read-requires-in_default c).In_ok-operands 8 (eight c))), omega arith)
+read-requires-in_default c = (omega (arith, stands_room 1 8 _ (arm (goal.at-read-requires-in_default c).After-shared_slice_known-2-1 8 (eight c)).1), omega arith)

@@ -1,5 +1,4 @@
 -- `ops_crypto::hash::hash` meets its contract: the price, the reply, then what follows it, with base and output from before. Assumes nothing.
-use mathlib.Core.Path.{sym, ◌∙◌}
 use mathlib.Core.List.{List}
 use Prim.Native.Nat.{ℕ}
 use Rattle.state.specs.Regs.{file}
@@ -47,11 +46,11 @@ returns-in_default c =
 pub ask-t-requires : goal.ask-t-requires
 ask-t-requires c = rw (paid_is c.args.run _ _ _ c.pay.ensures c.in-Some.is) c.requires.0
 
-pub returns-then-is_some : goal.returns-then-is_some
-returns-then-is_some c =
+pub returns-then-t-ne0 : goal.returns-then-t-ne0
+returns-then-t-ne0 c =
     λ e l rd wr st ld ch fe pd stack log d ek.
-    (pays (goal.at-returns-then-is_some c).After-pay e stack ch fe pd log d).on _ _ _ c.in-Some.is
-    (λ sixteen so. asked_stops e c.args.replies.now d (registers (goal.at-returns-then-is_some c).Start) (machine_at (goal.at-returns-then-is_some c).After-ask-t stack ch fe pd log) _ _ _ _ (c.ask-t.ensures.turn e stack log d (lent_at (goal.at-returns-then-is_some c).Start stack ch fe pd log).keys (registers (goal.at-returns-then-is_some c).Start) sixteen so) (then (goal.at-returns-then-is_some c).After-pay e) (sym c.is_some.ensures ∙ c.if-is_some.true))
+    (pays (goal.at-returns-then-t-ne0 c).After-pay e stack ch fe pd log d).on _ _ _ c.in-Some.is
+    (λ sixteen so. asked_stops e c.args.replies.now d (registers (goal.at-returns-then-t-ne0 c).Start) (machine_at (goal.at-returns-then-t-ne0 c).After-ask-t stack ch fe pd log) _ _ _ _ (c.ask-t.ensures.turn e stack log d (lent_at (goal.at-returns-then-t-ne0 c).Start stack ch fe pd log).keys (registers (goal.at-returns-then-t-ne0 c).Start) sixteen so) (then (goal.at-returns-then-t-ne0 c).After-pay e) c.if-t-ne0.true)
 
 pub taint-requires : goal.taint-requires
 taint-requires c =
@@ -62,5 +61,5 @@ pub returns : goal.returns
 returns c =
     λ e l rd wr st ld ch fe pd stack log d ek.
     (pays (goal.at-returns c).After-pay e stack ch fe pd log d).on _ _ _ c.in-Some.is
-    (λ sixteen so. asked_on e c.args.replies.now d (registers (goal.at-returns c).Start) (machine_at (goal.at-returns c).After-ask-t stack ch fe pd log) _ _ _ _ (c.ask-t.ensures.turn e stack log d (lent_at (goal.at-returns c).Start stack ch fe pd log).keys (registers (goal.at-returns c).Start) sixteen so) (then (goal.at-returns c).After-pay e) _ _ (sym c.is_some.ensures ∙ c.if-is_some.false)
+    (λ sixteen so. asked_on e c.args.replies.now d (registers (goal.at-returns c).Start) (machine_at (goal.at-returns c).After-ask-t stack ch fe pd log) _ _ _ _ (c.ask-t.ensures.turn e stack log d (lent_at (goal.at-returns c).Start stack ch fe pd log).keys (registers (goal.at-returns c).Start) sixteen so) (then (goal.at-returns c).After-pay e) _ _ c.if-t-ne0.false
     (c.taint.ensures e c.args.replies.now rd wr st ld stack ch fe pd log d (registers (goal.at-returns c).Start) l ek sixteen))

@@ -5,7 +5,7 @@ ghost use Rattle.interp.specs.Held.{held_with, Kept};
 
 use crate::work::Work;
 
-// The preload over memory from its start, as far as memory reaches. By `copy_in`, as what is copied in there: no call of memmove.
+// The preload over memory from its start, as far as memory reaches. By `copy_in`, which calls no memmove.
 pub fn preload(memory: &mut [u8], preload: &[u8])
     ensures { memory.new ≡ take (length memory.old) preload.now ++ drop (length preload.now)
         memory.old }

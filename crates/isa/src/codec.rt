@@ -1,5 +1,5 @@
 // Reading an instruction from bytes, and writing it as bytes.
-ghost use Rattle.std.specs.Prelude.{◌≡◌, ◌∷◌, ◌++◌, ◌+◌, ◌≤◌, length, take, drop, is_none};
+ghost use Rattle.std.specs.Prelude.{◌≡◌, ◌∷◌, ◌++◌, ◌+◌, ◌≤◌, length, take, drop, is_none, true};
 ghost use Rattle.words.specs.Bytes.{be_bytes};
 ghost use Rattle.isa.specs.Forms.{form_of};
 ghost use Rattle.isa.specs.Codec.{first_bad, refusal_in, operands_of, decode_at, encoded_of, output_of};
@@ -112,7 +112,8 @@ fn first_bad(s: &[u8]) -> Option<u8>
 // walked, as many as each call says.
 fn stands(s: &[u8], n: usize, w: usize) -> bool
     requires { n + w ≤ 9 }
-    ensures { result ≡ is_none (refusal_in n w s.now) }
+    ensures answer { result ≡ is_none (refusal_in n w s.now) }
+    ensures room { result ≡ true → n + w ≤ length s.now }
 {
     if s.len() < n + w {
         return false;

@@ -52,7 +52,7 @@ fn is_zero(w: Wide) -> bool
     w.hi == 0 && w.lo == 0
 }
 
-// An operation on two registers. A match: by `?` the value went through memory once more.
+// An operation on two registers. A match: by `?` the value goes through memory once more.
 fn two(r: &[u64], op: Op, d: u8, a: u8, b: u8) -> Result<Outcome, Fault>
     ensures { applied (file r.now) result ≡ rule_two op (file r.now) d a b }
 {

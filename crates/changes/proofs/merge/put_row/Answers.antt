@@ -5,9 +5,6 @@ use Rattle.tables.specs.MadeLaws.{as_row}
 use Rattle.changes.specs.MergeLaws.{put_counted}
 use Rattle.changes.proofs.merge.put_row.Goals as goal
 
-pub insert-requires : goal.insert-requires
-insert-requires c = rw c.requires.1 c.requires.0
-
 pub returns : goal.returns
 returns c =
     let a = c.args in

@@ -21,7 +21,7 @@ shape c =
     (c.requires.0, c.requires.1 ∙ widths (0 ∷ []) 4 0 c.args.w refl c.args.op c.requires c.if-w-eq0.false)
 
 stood : (c : Else-not-stands) → is_none (refusal_in 0 4 c.args.s.now) ≡ true
-stood c = sym c.stands.ensures ∙ c.if-not-stands.false
+stood c = sym c.stands.ensures.answer ∙ c.if-not-stands.false
 
 pub returns-then-w-eq0 : goal.returns-then-w-eq0
 unfolding num num_from first_bad
@@ -33,10 +33,7 @@ returns-then-w-eq0 c =
 pub returns-then-not-stands : goal.returns-then-not-stands
 returns-then-not-stands c =
     let a = c.args in
-    shape_none a.op a.s.now 0 4 (shape (goal.at-returns-then-not-stands c).Else-w-eq0) (sym c.stands.ensures ∙ c.if-not-stands.true)
-
-pub read-requires : goal.read-requires
-read-requires c = (omega (arith, stands_room 0 4 _ (stood c)), omega arith)
+    shape_none a.op a.s.now 0 4 (shape (goal.at-returns-then-not-stands c).Else-w-eq0) (sym c.stands.ensures.answer ∙ c.if-not-stands.true)
 
 pub returns : goal.returns
 returns c =

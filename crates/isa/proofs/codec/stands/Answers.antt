@@ -8,10 +8,10 @@ turned : (b c : Bool) → c ≡ not b → b ≡ not c
 turned true c e = rw e
 turned false c e = rw e
 
-pub returns-then-s-n : goal.returns-then-s-n
-returns-then-s-n c = sym (stands_not _ _ _ c.if-s-n.true)
+pub returns-then-s-n-clause-answer : goal.returns-then-s-n-clause-answer
+returns-then-s-n-clause-answer c = sym (stands_not _ _ _ c.if-s-n.true)
 
-pub returns : goal.returns
-returns c =
+pub returns-clause-answer : goal.returns-clause-answer
+returns-clause-answer c =
     let a = c.args in
     turned _ _ c.is_none.ensures ∙ ap is_none c.first_bad.ensures ∙ sym (stands_all a.n a.w a.s.now c.if-s-n.false)

@@ -1,19 +1,13 @@
 -- `words::bytes::copy_in` meets its contract. Assumes nothing.
-use mathlib.Core.Path.{◌≡◌, refl, ap, ◌∙◌}
+use mathlib.Core.Path.{◌≡◌, ap, ◌∙◌}
 use native.Mathlib.Omega.{arith}
 use lib.ListN.{length, length-set}
 use lib.Seq.{paste}
-use Rattle.words.specs.BytesLaws.{copy_turn, paste_none}
+use Rattle.words.specs.BytesLaws.{copy_turn}
 use Rattle.words.proofs.bytes.copy_in.Goals as goal
-
-pub loop-i-init : goal.loop-i-init
-loop-i-init c = let a = c.args in (omega arith, paste_none a.t.now a.src.now a.at _ refl, refl)
 
 pub loop-i-preserved : goal.loop-i-preserved
 loop-i-preserved c = let l = c.loop-i in (omega arith, copy_turn _ _ _ _ _ (omega arith) (omega arith) l.invariant.1, simp length-set l.invariant.2)
-
-pub shape_of-t : goal.shape_of-t
-shape_of-t c = c.loop-i.invariant.2
 
 pub returns : goal.returns
 returns c =
